@@ -1,0 +1,2 @@
+// Polynomials modulo X^n + 1.
+pub fn one() -> u32 { 1 }

@@ -1,0 +1,5 @@
+pub mod Sums
+pub mod Lists
+pub mod Parts
+pub mod Near
+pub mod Magnitudes

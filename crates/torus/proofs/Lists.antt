@@ -1,0 +1,86 @@
+-- Lists given by their elements, and what a loop makes that stores one element a turn.
+-- Assumes nothing.
+use mathlib.Core.Path.{_≡_, refl, ap, ap₂, sym, _∙_}
+use mathlib.Core.Logic.{_⊎_, inl, inr}
+use mathlib.Core.List.{List, [], _∷_}
+use Prim.Native.Nat.{ℕ, zero, suc, _+_, _≤_, _<_}
+use native.Mathlib.Nat.{le-of-suc-le-suc, eq-or-lt-of-le}
+use native.Mathlib.Numerals.{add-one}
+use native.Mathlib.Omega.{arith}
+use lib.ListN.{length, getD, set, replicate, length-set}
+use lib.Seq.{ext-getD, getD-set-same, getD-set-other}
+use Rattle.torus.specs.Sum.{tabulate}
+
+pub length-tabulate : (n : ℕ) (f : ℕ → ℕ) → length (tabulate n f) ≡ n
+unfolding tabulate
+length-tabulate zero f = refl
+length-tabulate (suc n) f = ap suc (length-tabulate n (λ i. f (suc i)))
+
+pub tabulate-at : (n : ℕ) (f : ℕ → ℕ) (i : ℕ) → i < n → getD (tabulate n f) i 0 ≡ f i
+unfolding tabulate
+tabulate-at zero f i h = absurd (omega arith)
+tabulate-at (suc n) f zero h = refl
+tabulate-at (suc n) f (suc i) h = tabulate-at n (λ i. f (suc i)) i (omega arith)
+
+pub tabulate-cong : (n : ℕ) (f g : ℕ → ℕ) → ((i : ℕ) → i < n → f i ≡ g i) → tabulate n f ≡ tabulate n g
+unfolding tabulate
+tabulate-cong zero f g h = refl
+tabulate-cong (suc n) f g h = ap₂ _∷_ (h 0 (omega arith)) (tabulate-cong n _ _ (λ i l. h (suc i) (omega arith)))
+
+-- A list is the table of its elements.
+pub tabulate-self : (n : ℕ) (l : List ℕ) → length l ≡ n → tabulate n (λ i. getD l i 0) ≡ l
+unfolding tabulate
+tabulate-self zero [] e = refl
+tabulate-self zero (x ∷ l) e = absurd (omega arith)
+tabulate-self (suc n) [] e = absurd (omega arith)
+tabulate-self (suc n) (x ∷ l) e = ap (λ m. x ∷ m) (tabulate-self n l (omega arith))
+
+pub tabulate-const : (n a : ℕ) → tabulate n (λ i. a) ≡ replicate n a
+unfolding tabulate
+tabulate-const zero a = refl
+tabulate-const (suc n) a = ap (λ l. a ∷ l) (tabulate-const n a)
+
+-- l with its first n elements replaced by f 0 to f (n - 1): what a loop that stores f i at i has made after n turns.
+unfoldable pub filled : ℕ → (ℕ → ℕ) → List ℕ → List ℕ
+filled zero f l = l
+filled (suc n) f l = set (filled n f l) n (f n)
+
+pub filled-none : (f : ℕ → ℕ) (l : List ℕ) → l ≡ filled 0 f l
+unfolding filled
+filled-none f l = refl
+
+-- One turn more: v is stored at n.
+pub filled-more : (n : ℕ) (f : ℕ → ℕ) (l out : List ℕ) (v : ℕ) → out ≡ filled n f l → v ≡ f n → set out n v ≡ filled (n + 1) f l
+unfolding filled
+filled-more n f l out v e h = rw (add-one n) (ap₂ (λ m x. set m n x) e h)
+
+pub length-filled : (n : ℕ) (f : ℕ → ℕ) (l : List ℕ) → length (filled n f l) ≡ length l
+unfolding filled
+length-filled zero f l = refl
+length-filled (suc n) f l = length-set (filled n f l) n (f n) ∙ length-filled n f l
+
+-- What is not yet replaced.
+pub filled-later : (n : ℕ) (f : ℕ → ℕ) (l : List ℕ) (i : ℕ) → n ≤ i → getD (filled n f l) i 0 ≡ getD l i 0
+unfolding filled
+filled-later zero f l i h = refl
+filled-later (suc n) f l i h = getD-set-other (filled n f l) n i (f n) 0 (omega arith) ∙ filled-later n f l i (omega arith)
+
+filled-case : (n : ℕ) (f : ℕ → ℕ) (l : List ℕ) (i : ℕ) → n < length l → (i < n → getD (filled n f l) i 0 ≡ f i)
+    → (i ≡ n) ⊎ (i < n) → getD (set (filled n f l) n (f n)) i 0 ≡ f i
+filled-case n f l i b ih (inl e) = rw e (getD-set-same (filled n f l) n (f n) 0 (rw (length-filled n f l) b))
+filled-case n f l i b ih (inr h) = getD-set-other (filled n f l) n i (f n) 0 (omega arith) ∙ ih h
+
+-- What is replaced.
+pub filled-before : (n : ℕ) (f : ℕ → ℕ) (l : List ℕ) (i : ℕ) → n ≤ length l → i < n → getD (filled n f l) i 0 ≡ f i
+unfolding filled
+filled-before zero f l i b h = absurd (omega arith)
+filled-before (suc n) f l i b h =
+    filled-case n f l i b (filled-before n f l i (omega arith)) (eq-or-lt-of-le (le-of-suc-le-suc h))
+
+-- All turns are done.
+pub filled-all : (n : ℕ) (f : ℕ → ℕ) (l : List ℕ) → length l ≡ n → filled n f l ≡ tabulate n f
+filled-all n f l e =
+    ext-getD 0 (filled n f l) (tabulate n f) (length-filled n f l ∙ e ∙ sym (length-tabulate n f))
+    (λ i h.
+    let b : i < n = omega (arith, length-filled n f l) in
+    filled-before n f l i (omega arith) b ∙ sym (tabulate-at n f i b))

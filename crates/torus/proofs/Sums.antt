@@ -1,0 +1,34 @@
+-- Laws of finite sums.
+-- Assumes nothing.
+use mathlib.Core.Path.{_≡_, refl, ap, ap₂, sym, _∙_}
+use Prim.Native.Nat.{ℕ, zero, suc, _+_, _*_, _<_}
+use native.Mathlib.Nat.{add-zero, add-suc, add-assoc, zero-mul, suc-mul, add-mul}
+use native.Mathlib.Omega.{arith}
+use Rattle.torus.specs.Sum.{sum}
+
+pub sum-cong : (n : ℕ) (f g : ℕ → ℕ) → ((i : ℕ) → i < n → f i ≡ g i) → sum n f ≡ sum n g
+unfolding sum
+sum-cong zero f g h = refl
+sum-cong (suc n) f g h = ap₂ _+_ (sum-cong n f g (λ i l. h i (omega arith))) (h n (omega arith))
+
+pub sum-const : (n a : ℕ) → sum n (λ i. a) ≡ n * a
+unfolding sum
+sum-const zero a = sym (zero-mul a)
+sum-const (suc n) a = ap (λ x. x + a) (sum-const n a) ∙ sym (suc-mul n a)
+
+pub sum-add : (n : ℕ) (f g : ℕ → ℕ) → sum n (λ i. f i + g i) ≡ sum n f + sum n g
+unfolding sum
+sum-add zero f g = refl
+sum-add (suc n) f g = omega (arith, sum-add n f g)
+
+pub sum-mul : (n : ℕ) (f : ℕ → ℕ) (a : ℕ) → sum n (λ i. f i * a) ≡ sum n f * a
+unfolding sum
+sum-mul zero f a = sym (zero-mul a)
+sum-mul (suc n) f a = ap (λ x. x + f n * a) (sum-mul n f a) ∙ sym (add-mul (sum n f) (f n) a)
+
+-- A sum is that of its first n terms and that of the m after them.
+pub sum-append : (n m : ℕ) (f : ℕ → ℕ) → sum (n + m) f ≡ sum n f + sum m (λ i. f (n + i))
+unfolding sum
+sum-append n zero f = ap (λ k. sum k f) (add-zero n) ∙ sym (add-zero (sum n f))
+sum-append n (suc m) f =
+    ap (λ k. sum k f) (add-suc n m) ∙ ap (λ x. x + f (n + m)) (sum-append n m f) ∙ add-assoc (sum n f) _ _

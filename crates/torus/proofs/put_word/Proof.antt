@@ -1,0 +1,88 @@
+-- `torus::put_word` meets its contract: the four bytes make up the word. Assumes nothing.
+use native.Mathlib.Omega.{arith}
+use mathlib.Core.Path.{ap, _∙_}
+use Prim.Native.Nat.{_/_, _%_}
+use lib.ListN.{set, length-set}
+use Rattle.torus.specs.Bytes.{words}
+use Rattle.torus.proofs.Parts.{words-set}
+use borrow.Author.Needs.{needs}
+use Rattle.torus.proofs.put_word.Statement.{statement}
+use Rattle.torus.proofs.put_word.Tie as tie
+
+cast-s : tie.Need-cast-s
+cast-s c = search needs
+
+mul-s : tie.Need-mul-s
+mul-s c = search needs
+
+slice-write-s : tie.Need-slice-write-s
+slice-write-s c = search needs
+
+cast-s-2 : tie.Need-cast-s-2
+cast-s-2 c = search needs
+
+mul-s-2 : tie.Need-mul-s-2
+mul-s-2 c = search needs
+
+add-s : tie.Need-add-s
+add-s c = search needs
+
+slice-write-s-2 : tie.Need-slice-write-s-2
+slice-write-s-2 c = simp length-set (omega arith)
+
+cast-s-3 : tie.Need-cast-s-3
+cast-s-3 c = search needs
+
+mul-s-3 : tie.Need-mul-s-3
+mul-s-3 c = search needs
+
+add-s-2 : tie.Need-add-s-2
+add-s-2 c = search needs
+
+slice-write-s-3 : tie.Need-slice-write-s-3
+slice-write-s-3 c = simp length-set (omega arith)
+
+cast-s-4 : tie.Need-cast-s-4
+cast-s-4 c = search needs
+
+mul-s-4 : tie.Need-mul-s-4
+mul-s-4 c = search needs
+
+add-s-3 : tie.Need-add-s-3
+add-s-3 c = search needs
+
+slice-write-s-4 : tie.Need-slice-write-s-4
+slice-write-s-4 c = simp length-set (omega arith)
+
+same-length : tie.Need-same-length
+same-length c = search needs
+
+returns : tie.Need-returns
+returns c =
+    let s = c .args .s .now in
+    let i = c .args .i in
+    let w = c .args .w in
+    words-set s i (w % 256) (w / 256 % 256) (w / 65536 % 256) (w / 16777216) (c .pre)
+    ∙ ap (λ v. set (words s) i v) (omega arith)
+
+pub put-word-spec : {M : Type 1} → statement M
+put-word-spec =
+    tie.close
+    (tie.spec
+    cast-s
+    mul-s
+    slice-write-s
+    cast-s-2
+    mul-s-2
+    add-s
+    slice-write-s-2
+    cast-s-3
+    mul-s-3
+    add-s-2
+    slice-write-s-3
+    cast-s-4
+    mul-s-4
+    add-s-3
+    slice-write-s-4
+    same-length
+    returns)
