@@ -2,13 +2,13 @@
 -- Assumes nothing.
 use mathlib.Core.Path.{_≡_, ap, _∙_, subst}
 use Prim.Native.Nat.{ℕ, _+_, _-_, _*_, _/_, _%_, _^_, _≤_, _<_, min}
-use native.Mathlib.Nat.{le-trans, le-antisymm, le-of-eq, lt-of-not-le, mod-lt, mod-add-div', zero-add, mul-zero, mul-le-mul-right, min-le-left, min-le-right}
+use native.Mathlib.Nat.{le-trans, le-antisymm, lt-of-not-le, mod-lt, mod-add-div', mul-zero, mul-le-mul-right, min-le-left, min-le-right}
 use native.Mathlib.Decide.{decLe}
 use native.Mathlib.Omega.{arith}
 use lib.Dec.{lit<, lit≤}
 use borrow.Author.Tests.{lt-ltb, le-ltb}
 use Rattle.torus.specs.Word.{add, sub, mul, magnitude, distance}
-use Rattle.torus.proofs.Near.{Near, near-refl, near-sym, near-weaken, near-trans, near-add, near-mul, near-mod}
+use Rattle.torus.proofs.Near.{Near, near-refl, near-sym, near-trans, near-add, congruent-trans, near-mul, near-mod}
 
 pub magnitude-low : (w : ℕ) → w < 2 ^ 31 → magnitude w ≡ w
 unfolding magnitude
@@ -74,7 +74,7 @@ magnitude-near {x} h = subst (λ m. Near (2 ^ 32) m x 0) (distance-zero x h) (di
 -- The remainder of a number within A of 0.
 near-word : {A x : ℕ} → Near (2 ^ 32) A x 0 → magnitude (x % 2 ^ 32) ≤ A
 near-word {A} {x} h =
-    near-magnitude (mod-lt x (lit< tt)) (near-weaken (le-of-eq (zero-add A)) (near-trans (near-mod x) h))
+    near-magnitude (mod-lt x (lit< tt)) (congruent-trans (near-mod x) h)
 
 pub magnitude-add : (a b : ℕ) → a < 2 ^ 32 → b < 2 ^ 32 → magnitude (add a b) ≤ magnitude a + magnitude b
 magnitude-add a b ha hb = near-word (near-add (magnitude-near ha) (magnitude-near hb))

@@ -3,7 +3,7 @@
 -- Assumes nothing.
 use mathlib.Core.Path.{_≡_, refl, ap, sym, _∙_, subst}
 use Prim.Native.Nat.{ℕ, zero, suc, _+_, _*_, _/_, _%_, _≤_, _<_}
-use native.Mathlib.Nat.{mul-le-mul, le-refl, le-trans, le-of-eq, one-mul, mod-add-div', add-mul-mod-self-right}
+use native.Mathlib.Nat.{mul-le-mul, le-refl, le-trans, le-of-eq, zero-add, mul-zero, one-mul, mod-add-div', add-mul-mod-self-right}
 use native.Mathlib.Omega.{arith}
 use Rattle.torus.specs.Sum.{sum}
 
@@ -75,6 +75,22 @@ module _ {Q : ℕ} where
   near-sum zero A f g h = near-refl 0
   near-sum (suc n) A f g h = near-add (near-sum n A f g (λ i l. h i (omega arith))) (h n (omega arith))
 
+  -- ---- congruence: nearness with no noise
+
+  pub congruent-trans : {A x y w : ℕ} → Near Q 0 x y → Near Q A y w → Near Q A x w
+  congruent-trans {A} h k = near-weaken (le-of-eq (zero-add A)) (near-trans h k)
+
+  pub congruent-add : {x y x′ y′ : ℕ} → Near Q 0 x y → Near Q 0 x′ y′ → Near Q 0 (x + x′) (y + y′)
+  congruent-add h k = near-weaken (le-refl 0) (near-add h k)
+
+  pub congruent-scale : (c : ℕ) {x y : ℕ} → Near Q 0 x y → Near Q 0 (c * x) (c * y)
+  congruent-scale c h = near-weaken (le-of-eq (mul-zero c)) (near-scale c h)
+
+  pub congruent-sum : (n : ℕ) (f g : ℕ → ℕ) → ((i : ℕ) → i < n → Near Q 0 (f i) (g i)) → Near Q 0 (sum n f) (sum n g)
+  unfolding sum
+  congruent-sum zero f g h = near-refl 0
+  congruent-sum (suc n) f g h = congruent-add (congruent-sum n f g (λ i l. h i (omega arith))) (h n (omega arith))
+
   -- ---- remainders
 
   pub near-mod : (x : ℕ) → Near Q 0 (x % Q) x
@@ -86,7 +102,7 @@ module _ {Q : ℕ} where
       sym (add-mul-mod-self-right x (h .s) Q) ∙ ap (λ a. a % Q) (omega (arith, h .same, h .small)) ∙ add-mul-mod-self-right y (h .t) Q
 
   pub eq-near : {x y : ℕ} → x % Q ≡ y % Q → Near Q 0 x y
-  eq-near {x} {y} e = near-trans (near-sym (near-mod x)) (subst (λ w. Near Q 0 w y) (sym e) (near-mod y))
+  eq-near {x} {y} e = congruent-trans (near-sym (near-mod x)) (subst (λ w. Near Q 0 w y) (sym e) (near-mod y))
 
 -- ---- minus one: with Q = z + 1, z · x stands for -x
 

@@ -2,8 +2,9 @@
 -- Assumes nothing.
 use mathlib.Core.Path.{_≡_, refl, ap, _∙_}
 use mathlib.Core.List.{List, [], _∷_, _++_}
-use Prim.Native.Nat.{ℕ, zero, suc, _+_, _*_, _/_, _%_, _≤_, _<_}
+use Prim.Native.Nat.{ℕ, zero, suc, _+_, _*_, _/_, _%_, _^_, _≤_, _<_}
 use native.Mathlib.Omega.{arith}
+use lib.Dec.{lit<}
 use lib.ListN.{length, getD, take, drop, set}
 use lib.Seq.{length-take-le}
 use Rattle.torus.specs.Bytes.{word, words, bytes}
@@ -114,6 +115,21 @@ words-back a k p q xs ys e f h g =
     ∙ rw (e, f, words-take, words-drop, words-drop)
 
 -- ---- every byte
+
+-- The words of a list of bytes are words.
+pub words-word : (s : List ℕ) → ((i : ℕ) → getD s i 0 < 256) → (i : ℕ) → getD (words s) i 0 < 2 ^ 32
+unfolding words
+words-word [] f i = lit< tt
+words-word (a ∷ []) f i = lit< tt
+words-word (a ∷ b ∷ []) f i = lit< tt
+words-word (a ∷ b ∷ c ∷ []) f i = lit< tt
+words-word (a ∷ b ∷ c ∷ d ∷ s) f zero =
+    let fa : a < 256 = f 0 in
+    let fb : b < 256 = f 1 in
+    let fc : c < 256 = f 2 in
+    let fd : d < 256 = f 3 in
+    omega arith
+words-word (a ∷ b ∷ c ∷ d ∷ s) f (suc i) = words-word s (λ j. f (suc (suc (suc (suc j))))) i
 
 -- A list of whole words of bytes is told by its words, so that an equation on words is one on every byte.
 pub bytes-words : (k : ℕ) (s : List ℕ) → length s ≡ 4 * k → ((i : ℕ) → getD s i 0 < 256) → bytes (words s) ≡ s

@@ -1,0 +1,4 @@
+pub mod Poly
+pub mod Terms
+pub mod Close
+pub mod RowSums

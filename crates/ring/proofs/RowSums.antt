@@ -1,0 +1,110 @@
+-- What the product's code needs: its table, its loops' steps, and that the sum of all rows is the product.
+-- Assumes nothing.
+use mathlib.Core.Path.{_≡_, ap, ap₂, sym, _∙_}
+use mathlib.Core.Logic.{_⊎_, inl, inr}
+use mathlib.Core.List.{List}
+use Prim.Native.Nat.{ℕ, suc, _+_, _-_, _*_, _%_, _^_, _≤_, _<_}
+use native.Mathlib.Nat.{le-refl, zero-mul, mul-comm, mod-add-mod, add-mod-mod, eq-or-lt-of-le}
+use native.Mathlib.Numerals.{add-one}
+use native.Mathlib.Omega.{arith}
+use lib.ListN.{length, getD, set, replicate, length-set, getD-replicate}
+use lib.Seq.{getD-set-same, getD-set-other}
+use Rattle.torus.specs.Sum.{sum, tabulate}
+use Rattle.torus.specs.Word.{add, sub, mul}
+use Rattle.torus.proofs.Sums.{sum-cong, sum-mul}
+use Rattle.torus.proofs.Lists.{filled, filled-more, filled-later, tabulate-cong}
+use Rattle.torus.proofs.Near.{Near, near-path, near-refl, congruent-trans, congruent-add, congruent-scale, congruent-sum, near-mod, near-eq}
+use Rattle.ring.specs.Polynomial.{coefficients, inside, passed, product, addProduct}
+use Rattle.ring.specs.Rows.{BothSigns, Starts, rowSum}
+use Rattle.ring.proofs.Terms.{sum-split, minus-word}
+
+-- ---- the table
+
+signs-case : (n m i : ℕ) (p t : List ℕ) (v w : ℕ) → n + n ≤ length t → m < n → BothSigns n p m t → w ≡ coefficients p m → v ≡ sub 0 w
+    → (i ≡ m) ⊎ (i < m)
+    → (coefficients (set (set t m v) (n + m) w) i ≡ sub 0 (coefficients p i)) × (coefficients (set (set t m v) (n + m) w) (n + i) ≡ coefficients p i)
+signs-case n m i p t v w len l h ew ev (inl e) = rw e (
+  getD-set-other (set t m v) (n + m) m w 0 (omega arith) ∙ getD-set-same t m v 0 (omega arith) ∙ ev ∙ ap (sub 0) ew,
+  getD-set-same (set t m v) (n + m) w 0 (omega (arith, length-set t m v)) ∙ ew,
+)
+signs-case n m i p t v w len l h ew ev (inr li) = (
+  getD-set-other (set t m v) (n + m) i w 0 (omega arith) ∙ getD-set-other t m i v 0 (omega arith) ∙ h i li .0,
+  getD-set-other (set t m v) (n + m) (n + i) w 0 (omega arith) ∙ getD-set-other t m (n + i) v 0 (omega arith) ∙ h i li .1,
+)
+
+-- One coefficient more.
+pub signs-more : (n m : ℕ) (p t : List ℕ) (v w : ℕ) → n + n ≤ length t → m < n → BothSigns n p m t → w ≡ coefficients p m → v ≡ sub 0 w
+    → BothSigns n p (m + 1) (set (set t m v) (n + m) w)
+signs-more n m p t v w len l h ew ev i li =
+    let le : i ≤ m = omega arith in
+    signs-case n m i p t v w len l h ew ev (eq-or-lt-of-le le)
+
+-- ---- sums in place
+
+-- One turn more of a loop that adds g k to word k.
+pub filled-add : (k : ℕ) (g : ℕ → ℕ) (l out : List ℕ) (x y v : ℕ) → out ≡ filled k (λ i. add (getD l i 0) (g i)) l
+    → x ≡ getD out k 0 → y ≡ g k → v ≡ add x y → set out k v ≡ filled (k + 1) (λ i. add (getD l i 0) (g i)) l
+filled-add k g l out x y v e ex ey ev =
+    filled-more k _ l out v e
+    (ev ∙ ap₂ add (ex ∙ ap (λ m. getD m k 0) e ∙ filled-later k _ l k (le-refl k)) ey)
+
+-- To add 0 times anything changes nothing.
+pub add-none : (n : ℕ) (l : List ℕ) (g : ℕ → ℕ) → ((i : ℕ) → getD l i 0 < 2 ^ 32) → Starts n (λ k. add (getD l k 0) (mul 0 (g k))) l
+add-none n l g h k b = let word : getD l k 0 < 2 ^ 32 = h k in omega (arith, zero-mul (g k))
+
+-- ---- rows
+
+pub row-none : (n size : ℕ) (y t : List ℕ) → n ≤ size → Starts n (λ k. rowSum n y t 0 k % 2 ^ 32) (replicate size 0)
+unfolding rowSum sum
+row-none n size y t l k b = getD-replicate size k 0 0 (omega arith)
+
+-- One row more: d times the words of the table from place n - m on.
+pub row-more : (n m d : ℕ) (y t acc acc′ : List ℕ) → d ≡ coefficients y m → Starts n (λ k. rowSum n y t m k % 2 ^ 32) acc
+    → Starts n (λ k. add (coefficients acc k) (mul d (coefficients t (n - m + k)))) acc′
+    → Starts n (λ k. rowSum n y t (m + 1) k % 2 ^ 32) acc′
+unfolding rowSum sum
+row-more n m d y t acc acc′ ed before step k b = rw (add-one m)
+    (step k b ∙ ap₂ (λ x c. add x (mul c (coefficients t (n - m + k)))) (before k b) ed
+    ∙ mod-add-mod (rowSum n y t m k) (2 ^ 32) _
+    ∙ add-mod-mod (rowSum n y t m k) (coefficients y m * coefficients t (n - m + k)) (2 ^ 32))
+
+-- -x as a word is 2^32 - 1 times x.
+minus-near : (x : ℕ) → x ≤ 2 ^ 32 → Near (2 ^ 32) 0 (sub 0 x) (4294967295 * x)
+minus-near x h =
+    congruent-trans (near-mod (0 + (2 ^ 32 - x)))
+    (record { u = 0; v = 0; s = x; t = 1; same = omega arith; small = le-refl 0 })
+
+module _ (n : ℕ) (y p t : List ℕ) (words : (i : ℕ) → coefficients p i < 2 ^ 32) (signs : BothSigns n p n t) (k : ℕ) (l : k < n) where
+  low : (i : ℕ) → i < suc k → coefficients t (n - i + k) ≡ coefficients p (k - i)
+  low i li = let e : n - i + k ≡ n + (k - i) = omega arith in ap (coefficients t) e ∙ signs (k - i) (omega arith) .1
+
+  high : (i : ℕ) → i < n - suc k
+      → Near (2 ^ 32) 0 (coefficients y (suc k + i) * coefficients t (n - (suc k + i) + k)) (coefficients y (suc k + i) * coefficients p (n + k - (suc k + i)) * 4294967295)
+  high i li =
+      let j : ℕ = n + k - (suc k + i) in
+      let e : n - (suc k + i) + k ≡ j = omega arith in
+      let lj : j < n = omega arith in
+      let word : coefficients p j < 2 ^ 32 = words j in
+      let negated : Near (2 ^ 32) 0 (coefficients t (n - (suc k + i) + k)) (4294967295 * coefficients p j) =
+      congruent-trans (near-path (ap (coefficients t) e ∙ signs j lj .0)) (minus-near (coefficients p j) (omega arith)) in
+      congruent-trans (congruent-scale (coefficients y (suc k + i)) negated) (near-path (omega arith))
+
+  -- The sum of all rows is the product.
+  pub rows-product : rowSum n y t n k % 2 ^ 32 ≡ product n (coefficients y) (coefficients p) k
+  unfolding rowSum product
+  rows-product =
+      ap (λ x. x % 2 ^ 32)
+      (sum-split n k _ l
+      ∙ ap (λ x. x + sum (n - suc k) (λ i. coefficients y (suc k + i) * coefficients t (n - (suc k + i) + k)))
+      (sum-cong (suc k) _ _ (λ i li. ap (λ x. coefficients y i * x) (low i li))))
+      ∙ near-eq {Q = 2 ^ 32} (congruent-add (near-refl (inside (coefficients y) (coefficients p) k))
+      (congruent-trans (congruent-sum (n - suc k) _ _ high) (near-path (sum-mul (n - suc k) _ 4294967295 ∙ mul-comm _ 4294967295))))
+      ∙ sym (minus-word (inside (coefficients y) (coefficients p) k) (passed n (coefficients y) (coefficients p) k))
+
+-- The sums added to out make up the polynomial with the product added.
+pub sums-added : (n : ℕ) (out y p t sums : List ℕ) → ((i : ℕ) → coefficients p i < 2 ^ 32) → BothSigns n p n t
+    → Starts n (λ k. rowSum n y t n k % 2 ^ 32) sums
+    → tabulate n (λ k. add (coefficients out k) (coefficients sums k)) ≡ addProduct n out y p
+unfolding addProduct
+sums-added n out y p t sums words signs h =
+    tabulate-cong n _ _ (λ k l. ap (add (coefficients out k)) (h k l ∙ rows-product n y p t words signs k l))

@@ -1,0 +1,81 @@
+-- `ring::both_signs` meets its contract. The loop's invariant: the first i coefficients and their negatives stand in the table.
+-- Assumes nothing.
+use borrow.Author.Needs.{needs}
+use native.Mathlib.Omega.{arith}
+use mathlib.Core.Path.{_≡_, refl, subst}
+use Prim.Native.Nat.{ℕ, _≤_, _-_}
+use lib.ListN.{length, length-set}
+use Rattle.torus.specs.Bytes.{words}
+use Rattle.ring.specs.Rows.{BothSigns}
+use Rattle.ring.proofs.RowSums.{signs-more}
+use Rattle.ring.proofs.both_signs.Statement.{statement}
+use Rattle.ring.proofs.both_signs.Tie as tie
+
+abbrev Inv-loop : tie.InvT-loop
+Inv-loop row n table₀ i₀ table i = (i ≤ n) × (length table ≡ 2048) × BothSigns n (words row) i table
+
+abbrev μ-loop : tie.MeasureT-loop
+μ-loop row n table₀ i₀ table i = n - i
+
+loop-holds : tie.Need-loop-holds Inv-loop μ-loop
+loop-holds c = (omega arith, refl, λ i l. absurd (omega arith))
+
+word-at-requires : tie.Need-word-at-requires Inv-loop μ-loop
+word-at-requires c κs = search needs
+
+sub-requires : tie.Need-sub-requires Inv-loop μ-loop
+sub-requires c κs = search needs
+
+mul-table : tie.Need-mul-table Inv-loop μ-loop
+mul-table c = search needs
+
+array-write-table : tie.Need-array-write-table Inv-loop μ-loop
+array-write-table c = search needs
+
+add-table : tie.Need-add-table Inv-loop μ-loop
+add-table c = search needs
+
+mul-table-2 : tie.Need-mul-table-2 Inv-loop μ-loop
+mul-table-2 c = search needs
+
+array-write-table-2 : tie.Need-array-write-table-2 Inv-loop μ-loop
+array-write-table-2 c = search needs
+
+add-i : tie.Need-add-i Inv-loop μ-loop
+add-i c = search needs
+
+loop-less : tie.Need-loop-less Inv-loop μ-loop
+loop-less c = search needs
+
+loop-again : tie.Need-loop-again Inv-loop μ-loop
+loop-again c =
+    let at = c .before .before .before .loop in (
+      omega arith,
+      simp length-set (at .inv .1),
+      signs-more (c .before .before .before .before .before .args .n) (at .i) (words (c .before .before .before .before .before .args .row .now)) (at .table) _ _ (omega arith) (omega arith) (at .inv .2) (c .before .word-at .ensures) (c .sub .ensures),
+    )
+
+returns : tie.Need-returns Inv-loop μ-loop
+returns c =
+    let s = c .before .before .before .args in
+    let e : c .before .loop .i ≡ s .n = omega arith in
+    (c .before .loop .inv .1, subst (λ (m : ℕ). BothSigns (s .n) (words (s .row .now)) m (c .before .loop .table)) e (c .before .loop .inv .2))
+
+pub both-signs-spec : {M : Type 1} → statement M
+both-signs-spec =
+    tie.close
+    (tie.spec
+    Inv-loop
+    μ-loop
+    loop-holds
+    word-at-requires
+    sub-requires
+    mul-table
+    array-write-table
+    add-table
+    mul-table-2
+    array-write-table-2
+    add-i
+    loop-less
+    loop-again
+    returns)

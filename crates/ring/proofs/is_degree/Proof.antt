@@ -1,0 +1,13 @@
+-- `ring::is_degree` meets its contract. Assumes nothing.
+use borrow.Author.Tests.{eq-eqb, ne-eqb}
+use Rattle.ring.proofs.is_degree.Statement.{statement}
+use Rattle.ring.proofs.is_degree.Tie as tie
+
+returns : tie.Need-returns
+returns c = simp (ne-eqb _ _ (c .if1 .taken))
+
+returns-2 : tie.Need-returns-2
+returns-2 c = simp (eq-eqb _ _ (c .if1 .left))
+
+pub is-degree-spec : {M : Type 1} → statement M
+is-degree-spec = tie.close (tie.spec returns returns-2)
