@@ -1,20 +1,17 @@
 -- The limits on the base and the number of digits, as facts and as a test.
 -- Assumes nothing.
 use mathlib.Core.Path.{_≡_, refl, sym}
-use mathlib.Core.Bool.{Bool, true, false, _&&_}
+use mathlib.Core.Bool.{Bool, true, false}
 use Prim.Native.Nat.{ℕ, _*_, _≤_}
 use native.Mathlib.Nat.{mul-le-mul-left, mul-le-mul-right, one-mul, mul-one}
 use native.Mathlib.Omega.{arith}
 use lib.Dec.{leb}
 use borrow.Author.Tests.{leb-true, le-leb}
+use Rattle.torus.proofs.Tests.{both}
 use Rattle.gadget.specs.Digits.{Lawful, isLawful}
 
-both : (a b : Bool) → a && b ≡ true → (a ≡ true) × (b ≡ true)
-both true b e = (refl, e)
-both false b e = absurd (let z : _≡_ {A = ℕ} 0 1 = cc in omega arith)
-
-pub lawful-true : (g L : ℕ) → isLawful g L ≡ true → Lawful g L
-lawful-true g L e =
+pub test-lawful : (g L : ℕ) → isLawful g L ≡ true → Lawful g L
+test-lawful g L e =
     let p = both (leb 1 g) _ e in
     let q = both (leb g 16) _ (p .1) in
     let r = both (leb 1 L) _ (q .1) in
@@ -25,15 +22,15 @@ lawful-true g L e =
       room = leb-true (g * L) 32 (r .1);
     }
 
-pub true-lawful : (g L : ℕ) → Lawful g L → isLawful g L ≡ true
-true-lawful g L ok = simp (le-leb 1 g (ok .low), le-leb g 16 (ok .high), le-leb 1 L (ok .some), le-leb (g * L) 32 (ok .room))
+pub lawful-test : (g L : ℕ) → Lawful g L → isLawful g L ≡ true
+lawful-test g L ok = simp (le-leb 1 g (ok .low), le-leb g 16 (ok .high), le-leb 1 L (ok .some), le-leb (g * L) 32 (ok .room))
 
 -- What is not lawful fails the test.
 pub refused : (g L : ℕ) → (Lawful g L → ⊥) → false ≡ isLawful g L
 refused g L n = go (isLawful g L) refl
   where
     go : (b : Bool) → isLawful g L ≡ b → false ≡ isLawful g L
-    go true e = absurd (n (lawful-true g L e))
+    go true e = absurd (n (test-lawful g L e))
     go false e = sym e
 
 -- Where the other limits hold, the test is that of the room.

@@ -2,3 +2,4 @@ pub mod Poly
 pub mod Terms
 pub mod Close
 pub mod RowSums
+pub mod Degrees

@@ -3,3 +3,4 @@ pub mod Lists
 pub mod Parts
 pub mod Near
 pub mod Magnitudes
+pub mod Tests

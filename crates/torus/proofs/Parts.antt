@@ -61,9 +61,10 @@ set-quad (x ∷ y ∷ z ∷ []) i a b c d h = absurd (omega arith)
 set-quad (x ∷ y ∷ z ∷ w ∷ s) zero a b c d h = refl
 set-quad (x ∷ y ∷ z ∷ w ∷ s) (suc i) a b c d h = ap (λ l. word x y z w ∷ l) (set-quad s i a b c d (omega arith))
 
-pub words-set : (s : List ℕ) (i a b c d : ℕ) → 4 * i + 4 ≤ length s
-    → words (set (set (set (set s (4 * i) a) (4 * i + 1) b) (4 * i + 2) c) (4 * i + 3) d) ≡ set (words s) i (word a b c d)
-words-set s i a b c d h = rw (← quad-3, ← quad-2, ← quad-1, ← quad-eq) (set-quad s i a b c d h)
+-- Four bytes that make up w, stored in place of word i.
+pub words-set : (s : List ℕ) (i a b c d w : ℕ) → 4 * i + 4 ≤ length s → word a b c d ≡ w
+    → words (set (set (set (set s (4 * i) a) (4 * i + 1) b) (4 * i + 2) c) (4 * i + 3) d) ≡ set (words s) i w
+words-set s i a b c d w h e = rw (← quad-3, ← quad-2, ← quad-1, ← quad-eq) (set-quad s i a b c d h ∙ ap (λ v. set (words s) i v) e)
 
 -- ---- parts
 

@@ -1,9 +1,6 @@
 -- `torus::put_word` meets its contract: the four bytes make up the word. Assumes nothing.
 use native.Mathlib.Omega.{arith}
-use mathlib.Core.Path.{ap, _∙_}
-use Prim.Native.Nat.{_/_, _%_}
-use lib.ListN.{set, length-set}
-use Rattle.torus.specs.Bytes.{words}
+use lib.ListN.{length-set}
 use Rattle.torus.proofs.Parts.{words-set}
 use borrow.Author.Needs.{needs}
 use Rattle.torus.proofs.put_word.Statement.{statement}
@@ -58,12 +55,7 @@ same-length : tie.Need-same-length
 same-length c = search needs
 
 returns : tie.Need-returns
-returns c =
-    let s = c .args .s .now in
-    let i = c .args .i in
-    let w = c .args .w in
-    words-set s i (w % 256) (w / 256 % 256) (w / 65536 % 256) (w / 16777216) (c .pre)
-    ∙ ap (λ v. set (words s) i v) (omega arith)
+returns c = words-set (c .args .s .now) (c .args .i) _ _ _ _ (c .args .w) (c .pre) (omega arith)
 
 pub put-word-spec : {M : Type 1} → statement M
 put-word-spec =

@@ -1,0 +1,28 @@
+// The product kernel in plain C: digit polynomial j of x times row, added to out modulo X^n + 1.
+// Compiled once for each level of optimisation, under the name SCHOOLBOOK.
+#include <stddef.h>
+#include <stdint.h>
+
+static void write_digits(uint32_t *restrict digits, const uint32_t *restrict x, size_t n, uint32_t g, uint32_t l, uint32_t j) {
+    uint32_t offset = g * l < 32 ? 1u << (31 - g * l) : 0;
+    for (uint32_t k = 1; k <= l; k++)
+        offset += 1u << (32 - g * k + g - 1);
+    uint32_t mask = (1u << g) - 1, half = 1u << (g - 1);
+    for (size_t i = 0; i < n; i++)
+        digits[i] = (((x[i] + offset) >> (32 - g * j)) & mask) - half;
+}
+
+static void add_product(uint32_t *restrict out, const uint32_t *restrict small, const uint32_t *restrict row, size_t n) {
+    for (size_t i = 0; i < n; i++) {
+        uint32_t d = small[i];
+        for (size_t k = 0; k < n - i; k++)
+            out[i + k] += d * row[k];
+        for (size_t k = n - i; k < n; k++)
+            out[i + k - n] -= d * row[k];
+    }
+}
+
+void SCHOOLBOOK(size_t n, uint32_t g, uint32_t l, uint32_t j, const uint32_t *x, const uint32_t *row, uint32_t *digits, uint32_t *out) {
+    write_digits(digits, x, n, g, l, j);
+    add_product(out, digits, row, n);
+}

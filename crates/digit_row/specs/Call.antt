@@ -1,0 +1,33 @@
+-- One term of an external product as a total call: a polynomial to which the digit polynomial of another times a row is added.
+-- Assumes nothing.
+use mathlib.Core.Bool.{cond}
+use mathlib.Core.List.{List}
+use Prim.Native.Nat.{ℕ, _*_}
+use lib.Dec.{eqb, leb}
+use lib.ListN.{getD}
+use Rattle.torus.specs.Sum.{tabulate}
+use Rattle.torus.specs.Bytes.{words, bytes}
+use Rattle.gadget.specs.Digits.{isLawful, digit}
+use Rattle.ring.specs.Polynomial.{isDegree, addProduct}
+
+-- 0 if all fits, else by the first fault: 1 the degree, 2 the gadget, 4 the number j of the digit, 5 a length in bytes.
+unfoldable pub number : (N g L j x row digits out : ℕ) → ℕ
+number N g L j x row digits out =
+    cond (isDegree N)
+    (cond (isLawful g L)
+    (cond (leb 1 j) (cond (leb j L)
+    (cond (eqb x (4 * N)) (cond (eqb row (4 * N)) (cond (eqb digits (4 * N)) (cond (eqb out (4 * N)) 0 5) 5) 5) 5)
+    4) 4)
+    2)
+    1
+
+-- Digit j of every word: a polynomial with small coefficients.
+unfoldable pub digitPolynomial : (N g L j : ℕ) → List ℕ → List ℕ
+digitPolynomial N g L j x = tabulate N (λ i. digit g L (getD x i 0) j)
+
+-- The bytes that an accepted call leaves in the slice of digits, and those in the accumulator.
+unfoldable pub digitBytes : (N g L j : ℕ) → List ℕ → List ℕ
+digitBytes N g L j x = bytes (digitPolynomial N g L j (words x))
+
+unfoldable pub sumBytes : (N g L j : ℕ) → List ℕ → List ℕ → List ℕ → List ℕ
+sumBytes N g L j x row out = bytes (addProduct N (words out) (digitPolynomial N g L j (words x)) (words row))

@@ -1,0 +1,62 @@
+// One term of an external product as a total call, for the benchmark and the vectors. It is no call of the portal.
+ghost use mathlib.Core.Path.{_≡_};
+ghost use mathlib.Core.Bool.{cond};
+ghost use lib.Dec.{eqb};
+ghost use lib.ListN.{length};
+ghost use Rattle.digit_row.specs.Call as C;
+
+// 0 if all fits, else the number of the first fault. x, row, digits and out are lengths in bytes.
+fn refusal(n: u64, g: u64, l: u64, j: u64, x: usize, row: usize, digits: usize, out: usize) -> u32
+    ensures { λ r. ⌜ r ≡ C.number n g l j x row digits out ⌝ }
+{
+    if !ring::is_degree(n) {
+        return 1;
+    }
+    if !gadget::lawful(g, l) {
+        return 2;
+    }
+    if j < 1 {
+        return 4;
+    }
+    if l < j {
+        return 4;
+    }
+    let bytes = 4 * (n as usize);
+    if x != bytes {
+        return 5;
+    }
+    if row != bytes {
+        return 5;
+    }
+    if digits != bytes {
+        return 5;
+    }
+    if out != bytes {
+        return 5;
+    }
+    0
+}
+
+// To out, digit polynomial j of x times row, modulo X^n + 1. The digit polynomial is left in digits.
+#[no_mangle]
+pub extern "C" fn add_digit_row(
+    n: u64,
+    g: u64,
+    l: u64,
+    j: u64,
+    x: &[u8],
+    row: &[u8],
+    digits: &mut [u8],
+    out: &mut [u8],
+) -> u32
+    ensures { λ r. ⌜ (r ≡ C.number n g l j (length (now (x .entry))) (length (now (row .entry))) (length (now (digits .entry))) (length (now (out .entry)))) × (now (digits .exit) ≡ cond (eqb r 0) (C.digitBytes n g l j (now (x .entry))) (now (digits .entry))) × (now (out .exit) ≡ cond (eqb r 0) (C.sumBytes n g l j (now (x .entry)) (now (row .entry)) (now (out .entry))) (now (out .entry))) ⌝ }
+{
+    let fault = refusal(n, g, l, j, x.len(), row.len(), digits.len(), out.len());
+    if fault != 0 {
+        return fault;
+    }
+    let degree = n as usize;
+    gadget::write_digits(digits, x, degree, g as u32, l as u32, j as u32);
+    ring::add_product(out, digits, row, degree);
+    0
+}
