@@ -1,10 +1,11 @@
 -- One term of an external product as a total call: a polynomial to which the digit polynomial of another times a row is added.
 -- Assumes nothing.
+use mathlib.Core.Path.{_≡_}
 use mathlib.Core.Bool.{cond}
 use mathlib.Core.List.{List}
 use Prim.Native.Nat.{ℕ, _*_}
 use lib.Dec.{eqb, leb}
-use lib.ListN.{getD}
+use lib.ListN.{length, getD}
 use Rattle.torus.specs.Sum.{tabulate}
 use Rattle.torus.specs.Bytes.{words, bytes}
 use Rattle.gadget.specs.Digits.{isLawful, digit}
@@ -25,9 +26,15 @@ number N g L j x row digits out =
 unfoldable pub digitPolynomial : (N g L j : ℕ) → List ℕ → List ℕ
 digitPolynomial N g L j x = tabulate N (λ i. digit g L (getD x i 0) j)
 
--- The bytes that an accepted call leaves in the slice of digits, and those in the accumulator.
+-- The bytes of the digits, and those of the accumulator, after an accepted call.
 unfoldable pub digitBytes : (N g L j : ℕ) → List ℕ → List ℕ
 digitBytes N g L j x = bytes (digitPolynomial N g L j (words x))
 
 unfoldable pub sumBytes : (N g L j : ℕ) → List ℕ → List ℕ → List ℕ → List ℕ
 sumBytes N g L j x row out = bytes (addProduct N (words out) (digitPolynomial N g L j (words x)) (words row))
+
+-- What a call answers and leaves in the slices that it may write. A refusal changes no byte.
+pub record Answered (N g L j : ℕ) (x row digits out : List ℕ) (answer : ℕ) (digits′ out′ : List ℕ) : Type 0 where
+  pub number-is : answer ≡ number N g L j (length x) (length row) (length digits) (length out)
+  pub digits-are : digits′ ≡ cond (eqb answer 0) (digitBytes N g L j x) digits
+  pub out-is : out′ ≡ cond (eqb answer 0) (sumBytes N g L j x row out) out

@@ -1,8 +1,5 @@
 // One term of an external product as a total call, for the benchmark and the vectors. It is no call of the portal.
 ghost use mathlib.Core.Path.{_≡_};
-ghost use mathlib.Core.Bool.{cond};
-ghost use lib.Dec.{eqb};
-ghost use lib.ListN.{length};
 ghost use Rattle.digit_row.specs.Call as C;
 
 // 0 if all fits, else the number of the first fault. x, row, digits and out are lengths in bytes.
@@ -49,7 +46,9 @@ pub extern "C" fn add_digit_row(
     digits: &mut [u8],
     out: &mut [u8],
 ) -> u32
-    ensures { λ r. ⌜ (r ≡ C.number n g l j (length (now (x .entry))) (length (now (row .entry))) (length (now (digits .entry))) (length (now (out .entry)))) × (now (digits .exit) ≡ cond (eqb r 0) (C.digitBytes n g l j (now (x .entry))) (now (digits .entry))) × (now (out .exit) ≡ cond (eqb r 0) (C.sumBytes n g l j (now (x .entry)) (now (row .entry)) (now (out .entry))) (now (out .entry))) ⌝ }
+    ensures { λ r. ⌜ C.Answered n g l j
+        (now (x .entry)) (now (row .entry)) (now (digits .entry)) (now (out .entry))
+        r (now (digits .exit)) (now (out .exit)) ⌝ }
 {
     let fault = refusal(n, g, l, j, x.len(), row.len(), digits.len(), out.len());
     if fault != 0 {

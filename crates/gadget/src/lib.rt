@@ -97,8 +97,10 @@ pub fn decompose(w: u32, g: u32, l: u32) -> [u32; 32]
 
 // The n words of out become digit j of each of the n words of x.
 pub fn write_digits(out: &mut [u8], x: &[u8], n: usize, g: u32, l: u32, j: u32)
-    requires { ⌜ D.Lawful g l × (1 ≤ j) × (j ≤ l) × (length (now out) ≡ 4 * n) × (length (now x) ≡ 4 * n) ⌝ }
-    ensures { λ _. ⌜ words (now (out .exit)) ≡ tabulate n (λ i. D.digit g l (getD (words (now (x .entry))) i 0) j) ⌝ }
+    requires { ⌜ D.Lawful g l × (1 ≤ j) × (j ≤ l)
+        × (length (now out) ≡ 4 * n) × (length (now x) ≡ 4 * n) ⌝ }
+    ensures { λ _. ⌜ words (now (out .exit))
+        ≡ tabulate n (λ i. D.digit g l (getD (words (now (x .entry))) i 0) j) ⌝ }
 {
     let o = offset(g, l);
     let mut i = 0;

@@ -12,7 +12,7 @@ use lib.Seq.{getD-set-same, getD-set-other}
 use Rattle.torus.specs.Sum.{sum, tabulate}
 use Rattle.torus.specs.Word.{add, sub, mul}
 use Rattle.torus.proofs.Sums.{sum-cong, sum-mul}
-use Rattle.torus.proofs.Lists.{filled, filled-more, filled-later, tabulate-cong}
+use Rattle.torus.proofs.Lists.{tabulate-cong}
 use Rattle.torus.proofs.Near.{Near, near-path, near-refl, congruent-trans, congruent-add, congruent-scale, congruent-sum, near-mod, near-eq}
 use Rattle.ring.specs.Polynomial.{coefficients, inside, passed, product, addProduct}
 use Rattle.ring.specs.Rows.{BothSigns, Starts, rowSum}
@@ -39,20 +39,11 @@ signs-more n m p t v w len l h ew ev i li =
     let le : i ≤ m = omega arith in
     signs-case n m i p t v w len l h ew ev (eq-or-lt-of-le le)
 
--- ---- sums in place
-
--- One turn more of a loop that adds g k to word k.
-pub filled-add : (k : ℕ) (g : ℕ → ℕ) (l out : List ℕ) (x y v : ℕ) → out ≡ filled k (λ i. add (getD l i 0) (g i)) l
-    → x ≡ getD out k 0 → y ≡ g k → v ≡ add x y → set out k v ≡ filled (k + 1) (λ i. add (getD l i 0) (g i)) l
-filled-add k g l out x y v e ex ey ev =
-    filled-more k _ l out v e
-    (ev ∙ ap₂ add (ex ∙ ap (λ m. getD m k 0) e ∙ filled-later k _ l k (le-refl k)) ey)
+-- ---- rows
 
 -- To add 0 times anything changes nothing.
 pub add-none : (n : ℕ) (l : List ℕ) (g : ℕ → ℕ) → ((i : ℕ) → getD l i 0 < 2 ^ 32) → Starts n (λ k. add (getD l k 0) (mul 0 (g k))) l
 add-none n l g h k b = let word : getD l k 0 < 2 ^ 32 = h k in omega (arith, zero-mul (g k))
-
--- ---- rows
 
 pub row-none : (n size : ℕ) (y t : List ℕ) → n ≤ size → Starts n (λ k. rowSum n y t 0 k % 2 ^ 32) (replicate size 0)
 unfolding rowSum sum

@@ -38,7 +38,9 @@ fn both_signs(row: &[u8], n: usize) -> [u32; 2048]
 // at the leaves of a lookup are trivial, and most of their digits are 0.
 fn add_scaled(acc: &mut [u32], d: u32, table: &[u32], from: usize, n: usize)
     requires { ⌜ (n ≤ length (now acc)) × (from + n ≤ length (now table)) ⌝ }
-    ensures { λ _. ⌜ Starts n (λ k. W.add (getD (now (acc .entry)) k 0) (W.mul d (getD (now (table .entry)) (from + k) 0))) (now (acc .exit)) ⌝ }
+    ensures { λ _. ⌜ Starts n
+        (λ k. W.add (getD (now (acc .entry)) k 0) (W.mul d (getD (now (table .entry)) (from + k) 0)))
+        (now (acc .exit)) ⌝ }
 {
     if d == 0 {
         return;
@@ -54,7 +56,8 @@ fn add_scaled(acc: &mut [u32], d: u32, table: &[u32], from: usize, n: usize)
 // alias, so that the inner loop is vectorised.
 fn row_sums(small: &[u8], table: &[u32], n: usize) -> [u32; 1024]
     requires { ⌜ (length (now small) ≡ 4 * n) × (length (now table) ≡ 2048) × (n ≤ 1024) ⌝ }
-    ensures { λ r. ⌜ (length r ≡ 1024) × Starts n (λ k. rowSum n (words (now (small .entry))) (now (table .entry)) n k % 2 ^ 32) r ⌝ }
+    ensures { λ r. ⌜ (length r ≡ 1024)
+        × Starts n (λ k. rowSum n (words (now (small .entry))) (now (table .entry)) n k % 2 ^ 32) r ⌝ }
 {
     let mut acc = [0u32; 1024];
     let mut i = 0;
@@ -69,7 +72,8 @@ fn row_sums(small: &[u8], table: &[u32], n: usize) -> [u32; 1024]
 // To each of the n words of out, the word of a.
 fn add_words(out: &mut [u8], a: &[u32], n: usize)
     requires { ⌜ (length (now out) ≡ 4 * n) × (n ≤ length (now a)) ⌝ }
-    ensures { λ _. ⌜ words (now (out .exit)) ≡ tabulate n (λ k. W.add (getD (words (now (out .entry))) k 0) (getD (now (a .entry)) k 0)) ⌝ }
+    ensures { λ _. ⌜ words (now (out .exit))
+        ≡ tabulate n (λ k. W.add (getD (words (now (out .entry))) k 0) (getD (now (a .entry)) k 0)) ⌝ }
 {
     let mut k = 0;
     while k < n {
@@ -82,7 +86,8 @@ fn add_words(out: &mut [u8], a: &[u32], n: usize)
 // The product kernel: to out, the product of small and row modulo X^n + 1.
 pub fn add_product(out: &mut [u8], small: &[u8], row: &[u8], n: usize)
     requires { ⌜ Factors n (now out) (now small) (now row) ⌝ }
-    ensures { λ _. ⌜ words (now (out .exit)) ≡ addProduct n (words (now (out .entry))) (words (now (small .entry))) (words (now (row .entry))) ⌝ }
+    ensures { λ _. ⌜ words (now (out .exit))
+        ≡ addProduct n (words (now (out .entry))) (words (now (small .entry))) (words (now (row .entry))) ⌝ }
 {
     let table = both_signs(row, n);
     let sums = row_sums(small, &table, n);

@@ -4,7 +4,7 @@ use mathlib.Core.Path.{_≡_, refl, ap, ap₂, sym, _∙_}
 use mathlib.Core.Logic.{_⊎_, inl, inr}
 use mathlib.Core.List.{List, [], _∷_}
 use Prim.Native.Nat.{ℕ, zero, suc, _+_, _≤_, _<_}
-use native.Mathlib.Nat.{le-of-suc-le-suc, eq-or-lt-of-le}
+use native.Mathlib.Nat.{le-refl, le-of-suc-le-suc, eq-or-lt-of-le}
 use native.Mathlib.Numerals.{add-one}
 use native.Mathlib.Omega.{arith}
 use lib.ListN.{length, getD, set, replicate, length-set}
@@ -64,6 +64,13 @@ pub filled-later : (n : ℕ) (f : ℕ → ℕ) (l : List ℕ) (i : ℕ) → n �
 unfolding filled
 filled-later zero f l i h = refl
 filled-later (suc n) f l i h = getD-set-other (filled n f l) n i (f n) 0 (omega arith) ∙ filled-later n f l i (omega arith)
+
+-- One turn more of a loop in place: word n and g n are joined by op.
+pub filled-in-place : (op : ℕ → ℕ → ℕ) (n : ℕ) (g : ℕ → ℕ) (l out : List ℕ) (x y v : ℕ)
+    → out ≡ filled n (λ i. op (getD l i 0) (g i)) l → x ≡ getD out n 0 → y ≡ g n → v ≡ op x y
+    → set out n v ≡ filled (n + 1) (λ i. op (getD l i 0) (g i)) l
+filled-in-place op n g l out x y v e ex ey ev =
+    filled-more n _ l out v e (ev ∙ ap₂ op (ex ∙ ap (λ m. getD m n 0) e ∙ filled-later n _ l n (le-refl n)) ey)
 
 filled-case : (n : ℕ) (f : ℕ → ℕ) (l : List ℕ) (i : ℕ) → n < length l → (i < n → getD (filled n f l) i 0 ≡ f i)
     → (i ≡ n) ⊎ (i < n) → getD (set (filled n f l) n (f n)) i 0 ≡ f i

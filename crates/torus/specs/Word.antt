@@ -1,5 +1,5 @@
 -- Words of the discrete torus. "A word is an integer from 0 to 2^32 - 1."
--- The quotations here and below are of document 01, the rules of the build.
+-- The quotations in the comments of specs are of document 01, the rules of the build.
 -- Assumes nothing.
 use mathlib.Core.Bool.{cond}
 use Prim.Native.Nat.{ℕ, _+_, _-_, _*_, _%_, _^_}

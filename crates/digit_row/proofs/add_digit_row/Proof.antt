@@ -1,12 +1,13 @@
 -- `digit_row::add_digit_row` meets its contract. Assumes nothing.
+use borrow.Author.Needs.{needs}
+use borrow.Author.Tests.{ne-eqb}
 use native.Mathlib.Omega.{arith}
 use mathlib.Core.Path.{sym, _∙_}
-use borrow.Author.Tests.{ne-eqb}
-use Rattle.gadget.proofs.Bounds.{count-le}
+use lib.ListN.{length}
 use Rattle.torus.specs.Bytes.{words}
+use Rattle.gadget.proofs.Bounds.{count-le}
 use Rattle.digit_row.specs.Call.{digitPolynomial}
-use Rattle.digit_row.proofs.Accepted.{accepted, digits-small, digits-bytes, sum-bytes}
-use borrow.Author.Needs.{needs}
+use Rattle.digit_row.proofs.Accepted.{Fit, accepted, digits-small, digits-bytes, sum-bytes}
 use Rattle.digit_row.proofs.add_digit_row.Statement.{statement}
 use Rattle.digit_row.proofs.add_digit_row.Tie as tie
 
@@ -16,38 +17,39 @@ refusal-requires c κs = search needs
 returns : tie.Need-returns
 returns c =
     let refused = ne-eqb _ _ (c .if1 .taken) in
-    (c .before .refusal .ensures, simp refused, simp refused)
+    record { number-is = c .before .refusal .ensures; digits-are = simp refused; out-is = simp refused }
+
+-- What holds of the arguments past the test.
+fit : (c : tie.Else1) → let s = c .before .before .before .before .before .before .args in
+    Fit (s .n) (s .g) (s .l) (s .j) (length (s .x .now)) (length (s .row .now)) (length (s .digits .now)) (length (s .out .now))
+fit c = accepted _ _ _ _ _ _ _ _ (sym (c .before .refusal .ensures) ∙ c .if1 .left)
 
 cast-write-digits : tie.Need-cast-write-digits
-cast-write-digits c =
-    let fit = accepted (c .before .before .before .before .before .before .before .args .n) (c .before .before .before .before .before .before .before .args .g) (c .before .before .before .before .before .before .before .args .l) (c .before .before .before .before .before .before .before .args .j) _ _ _ _ (sym (c .before .before .refusal .ensures) ∙ c .before .if1 .left) in
-    omega arith
+cast-write-digits c = omega (arith, fit (c .before) .lawful)
 
 cast-write-digits-2 : tie.Need-cast-write-digits-2
-cast-write-digits-2 c =
-    let fit = accepted (c .before .before .before .before .before .before .before .args .n) (c .before .before .before .before .before .before .before .args .g) (c .before .before .before .before .before .before .before .args .l) (c .before .before .before .before .before .before .before .args .j) _ _ _ _ (sym (c .before .before .refusal .ensures) ∙ c .before .if1 .left) in
-    omega (arith, count-le _ _ (fit .lawful))
+cast-write-digits-2 c = omega (arith, count-le _ _ (fit (c .before) .lawful))
 
 cast-write-digits-3 : tie.Need-cast-write-digits-3
-cast-write-digits-3 c =
-    let fit = accepted (c .before .before .before .before .before .before .before .args .n) (c .before .before .before .before .before .before .before .args .g) (c .before .before .before .before .before .before .before .args .l) (c .before .before .before .before .before .before .before .args .j) _ _ _ _ (sym (c .before .before .refusal .ensures) ∙ c .before .if1 .left) in
-    omega (arith, count-le _ _ (fit .lawful))
+cast-write-digits-3 c = omega (arith, fit (c .before) .within, count-le _ _ (fit (c .before) .lawful))
 
 write-digits-requires : tie.Need-write-digits-requires
 write-digits-requires c κs =
-    let fit = accepted (c .before .before .before .before .before .before .before .args .n) (c .before .before .before .before .before .before .before .args .g) (c .before .before .before .before .before .before .before .args .l) (c .before .before .before .before .before .before .before .args .j) _ _ _ _ (sym (c .before .before .refusal .ensures) ∙ c .before .if1 .left) in
-    (fit .lawful, fit .some, fit .within, fit .digits-length, fit .x-length)
+    let f = fit (c .before) in
+    (f .lawful, f .some, f .within, f .digits-length, f .x-length)
 
 add-product-requires : tie.Need-add-product-requires
 unfolding digitPolynomial
 add-product-requires c κs =
-    let fit = accepted (c .before .before .before .before .before .before .before .before .before .before .before .before .args .n) (c .before .before .before .before .before .before .before .before .before .before .before .before .args .g) (c .before .before .before .before .before .before .before .before .before .before .before .before .args .l) (c .before .before .before .before .before .before .before .before .before .before .before .before .args .j) _ _ _ _ (sym (c .before .before .before .before .before .before .before .refusal .ensures) ∙ c .before .before .before .before .before .before .if1 .left) in
+    let accepted = c .before .before .before .before .before .before in
+    let f = fit accepted in
+    let s = accepted .before .before .before .before .before .before .args in
     record {
-      degree = fit .degree;
-      out-length = fit .out-length;
-      small-length = omega (arith, fit .digits-length);
-      row-length = fit .row-length;
-      small-words = digits-small (c .before .before .before .before .before .before .before .before .before .before .before .before .args .n) (c .before .before .before .before .before .before .before .before .before .before .before .before .args .g) (c .before .before .before .before .before .before .before .before .before .before .before .before .args .l) (c .before .before .before .before .before .before .before .before .before .before .before .before .args .j) (words (c .before .before .before .before .before .before .before .before .before .before .before .before .args .x .now)) _ (fit .lawful) (c .before .before .before .before .write-digits .ensures);
+      degree = f .degree;
+      out-length = f .out-length;
+      small-length = omega (arith, f .digits-length);
+      row-length = f .row-length;
+      small-words = digits-small (s .n) (s .g) (s .l) (s .j) (words (s .x .now)) _ (f .lawful) (c .before .before .before .before .write-digits .ensures);
     }
 
 same-length : tie.Need-same-length
@@ -59,11 +61,14 @@ same-length-2 c = search needs
 returns-2 : tie.Need-returns-2
 unfolding digitPolynomial
 returns-2 c =
-    let fit = accepted (c .before .before .before .before .before .before .before .before .before .before .before .before .before .before .before .args .n) (c .before .before .before .before .before .before .before .before .before .before .before .before .before .before .before .args .g) (c .before .before .before .before .before .before .before .before .before .before .before .before .before .before .before .args .l) (c .before .before .before .before .before .before .before .before .before .before .before .before .before .before .before .args .j) _ _ _ _ (sym (c .before .before .before .before .before .before .before .before .before .before .refusal .ensures) ∙ c .before .before .before .before .before .before .before .before .before .if1 .left) in (
-      sym (c .before .before .before .before .before .before .before .before .before .if1 .left) ∙ c .before .before .before .before .before .before .before .before .before .before .refusal .ensures,
-      digits-bytes _ _ _ _ _ _ (c .before .before .before .before .before .before .before .write-digits .ensures) (omega (arith, fit .digits-length)) (λ i. c .before .before .before .before .before .slice-known3 .given i .fits),
-      sum-bytes _ _ _ _ _ _ (c .before .before .before .before .before .before .before .write-digits .ensures) _ _ _ (c .before .before .add-product .ensures) (omega (arith, fit .out-length)) (λ i. c .slice-known4 .given i .fits),
-    )
+    let written = c .before .before .before .before .before .before .before in
+    let accepted = written .before .before in
+    let f = fit accepted in
+    record {
+      number-is = sym (accepted .if1 .left) ∙ accepted .before .refusal .ensures;
+      digits-are = digits-bytes _ _ _ _ _ _ (written .write-digits .ensures) (omega (arith, f .digits-length)) (λ i. c .before .before .before .before .before .slice-known3 .given i .fits);
+      out-is = sum-bytes _ _ _ _ _ _ (written .write-digits .ensures) _ _ _ (c .before .before .add-product .ensures) (omega (arith, f .out-length)) (λ i. c .slice-known4 .given i .fits);
+    }
 
 pub add-digit-row-spec : {M : Type 1} → statement M
 add-digit-row-spec =

@@ -28,9 +28,12 @@ same-length c = search needs
 returns : tie.Need-returns
 returns c =
     let s = c .before .before .before .before .before .before .before .before .before .before .before .args in
+    let bytes = c .before .before .before .before .before .before .before .before .shared-slice-known2 in
+    let table = c .before .before .before .before .before .before .before .both-signs in
+    let sums = c .before .before .before .before .before .row-sums in
     c .before .before .add-words .ensures
-    ∙ sums-added (s .n) (words (s .out .now)) (words (s .small .now)) (words (s .row .now)) (c .before .before .before .before .before .before .before .both-signs .result) (c .before .before .before .before .before .row-sums .result)
-    (words-word (s .row .now) (λ i. c .before .before .before .before .before .before .before .before .shared-slice-known2 .given i .fits)) (c .before .before .before .before .before .before .before .both-signs .ensures .1) (c .before .before .before .before .before .row-sums .ensures .1)
+    ∙ sums-added (s .n) (words (s .out .now)) (words (s .small .now)) (words (s .row .now)) (table .result) (sums .result)
+    (words-word (s .row .now) (λ i. bytes .given i .fits)) (table .ensures .1) (sums .ensures .1)
 
 pub add-product-spec : {M : Type 1} → statement M
 add-product-spec =

@@ -5,8 +5,8 @@ use mathlib.Core.Path.{_≡_, refl, _∙_, ap}
 use Prim.Native.Nat.{ℕ, _≤_, _-_, _+_, _<_}
 use lib.ListN.{length, getD, length-set}
 use Rattle.torus.specs.Word.{add, mul}
-use Rattle.torus.proofs.Lists.{filled, filled-none, filled-before}
-use Rattle.ring.proofs.RowSums.{filled-add, add-none}
+use Rattle.torus.proofs.Lists.{filled, filled-none, filled-in-place, filled-before}
+use Rattle.ring.proofs.RowSums.{add-none}
 use Rattle.ring.proofs.add_scaled.Statement.{statement}
 use Rattle.ring.proofs.add_scaled.Tie as tie
 
@@ -17,7 +17,10 @@ abbrev μ-loop : tie.MeasureT-loop
 μ-loop acc₀ d table from n k₀ acc k = n - k
 
 returns : tie.Need-returns Inv-loop μ-loop
-returns c = rw (c .if1 .taken) (add-none (c .before .before .before .args .n) (c .before .before .before .args .acc .now) (λ i. getD (c .before .before .before .args .table .now) (c .before .before .before .args .from + i) 0) (λ i. c .before .before .slice-known .given i .fits))
+returns c =
+    let s = c .before .before .before .args in
+    let words = c .before .before .slice-known in
+    rw (c .if1 .taken) (add-none (s .n) (s .acc .now) (λ i. getD (s .table .now) (s .from + i) 0) (λ i. words .given i .fits))
 
 loop-holds : tie.Need-loop-holds Inv-loop μ-loop
 loop-holds c = (omega arith, refl, filled-none _ _)
@@ -56,11 +59,13 @@ loop-less : tie.Need-loop-less Inv-loop μ-loop
 loop-less c = search needs
 
 loop-again : tie.Need-loop-again Inv-loop μ-loop
-loop-again c = (
-  omega arith,
-  simp length-set (omega arith),
-  filled-add _ (λ i. mul (c .before .before .before .before .before .before .before .before .before .args .d) (getD (c .before .before .before .before .before .before .before .before .before .args .table .now) (c .before .before .before .before .before .before .before .before .before .args .from + i) 0)) (c .before .before .before .before .before .before .before .before .before .args .acc .now) _ _ _ _ (c .before .before .before .before .before .loop .inv .2) refl (c .before .mul .ensures) (c .add .ensures),
-)
+loop-again c =
+    let s = c .before .before .before .before .before .before .before .before .before .args in
+    let at = c .before .before .before .before .before .loop in (
+      omega arith,
+      simp length-set (omega arith),
+      filled-in-place add _ (λ i. mul (s .d) (getD (s .table .now) (s .from + i) 0)) (s .acc .now) _ _ _ _ (at .inv .2) refl (c .before .mul .ensures) (c .add .ensures),
+    )
 
 same-length : tie.Need-same-length Inv-loop μ-loop
 same-length c = search needs
@@ -68,8 +73,9 @@ same-length c = search needs
 returns-2 : tie.Need-returns-2 Inv-loop μ-loop
 returns-2 c =
     let s = c .before .before .before .before .before .args in
-    let e : c .before .loop .k ≡ s .n = omega arith in
-    λ (k : ℕ) (l : k < s .n). ap (λ m. getD m k 0) (c .before .loop .inv .2) ∙ filled-before (c .before .loop .k) _ (s .acc .now) k (omega arith) (omega arith)
+    let at = c .before .loop in
+    let e : at .k ≡ s .n = omega arith in
+    λ (k : ℕ) (l : k < s .n). ap (λ m. getD m k 0) (at .inv .2) ∙ filled-before (at .k) _ (s .acc .now) k (omega arith) (omega arith)
 
 pub add-scaled-spec : {M : Type 1} → statement M
 add-scaled-spec =

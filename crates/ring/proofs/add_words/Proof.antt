@@ -6,9 +6,8 @@ use Prim.Native.Nat.{_≤_, _-_}
 use lib.ListN.{length, getD}
 use Rattle.torus.specs.Word.{add}
 use Rattle.torus.specs.Bytes.{words}
-use Rattle.torus.proofs.Lists.{filled, filled-none, filled-all}
+use Rattle.torus.proofs.Lists.{filled, filled-none, filled-in-place, filled-all}
 use Rattle.torus.proofs.Parts.{length-words}
-use Rattle.ring.proofs.RowSums.{filled-add}
 use Rattle.ring.proofs.add_words.Statement.{statement}
 use Rattle.ring.proofs.add_words.Tie as tie
 
@@ -43,12 +42,16 @@ loop-less : tie.Need-loop-less Inv-loop μ-loop
 loop-less c = search needs
 
 loop-again : tie.Need-loop-again Inv-loop μ-loop
-loop-again c = (
-  omega arith,
-  omega arith,
-  c .before .before .put-word .ensures
-      ∙ filled-add _ (λ i. getD (c .before .before .before .before .before .before .before .before .before .before .before .before .args .a .now) i 0) (words (c .before .before .before .before .before .before .before .before .before .before .before .before .args .out .now)) _ _ _ _ (c .before .before .before .before .before .before .before .before .before .loop .inv .2) (c .before .before .before .before .before .before .word-at .ensures) refl (c .before .before .before .add .ensures),
-)
+loop-again c =
+    let s = c .before .before .before .before .before .before .before .before .before .before .before .before .args in
+    let at = c .before .before .before .before .before .before .before .before .before .loop in
+    let read = c .before .before .before .before .before .before .word-at in
+    let sum = c .before .before .before .add in (
+      omega arith,
+      omega arith,
+      c .before .before .put-word .ensures
+          ∙ filled-in-place add _ (λ i. getD (s .a .now) i 0) (words (s .out .now)) _ _ _ _ (at .inv .2) (read .ensures) refl (sum .ensures),
+    )
 
 same-length : tie.Need-same-length Inv-loop μ-loop
 same-length c = search needs
@@ -56,8 +59,9 @@ same-length c = search needs
 returns : tie.Need-returns Inv-loop μ-loop
 returns c =
     let s = c .before .before .before .before .args in
-    let e : c .before .loop .k ≡ s .n = omega arith in
-    c .before .loop .inv .2 ∙ rw e (filled-all (s .n) _ _ (omega (arith, length-words (s .out .now))))
+    let at = c .before .loop in
+    let e : at .k ≡ s .n = omega arith in
+    at .inv .2 ∙ rw e (filled-all (s .n) _ _ (omega (arith, length-words (s .out .now))))
 
 pub add-words-spec : {M : Type 1} → statement M
 add-words-spec =

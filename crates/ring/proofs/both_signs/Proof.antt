@@ -49,17 +49,20 @@ loop-less c = search needs
 
 loop-again : tie.Need-loop-again Inv-loop μ-loop
 loop-again c =
-    let at = c .before .before .before .loop in (
+    let s = c .before .before .before .before .before .args in
+    let at = c .before .before .before .loop in
+    let read = c .before .word-at in (
       omega arith,
       simp length-set (at .inv .1),
-      signs-more (c .before .before .before .before .before .args .n) (at .i) (words (c .before .before .before .before .before .args .row .now)) (at .table) _ _ (omega arith) (omega arith) (at .inv .2) (c .before .word-at .ensures) (c .sub .ensures),
+      signs-more (s .n) (at .i) (words (s .row .now)) (at .table) _ _ (omega arith) (omega arith) (at .inv .2) (read .ensures) (c .sub .ensures),
     )
 
 returns : tie.Need-returns Inv-loop μ-loop
 returns c =
     let s = c .before .before .before .args in
-    let e : c .before .loop .i ≡ s .n = omega arith in
-    (c .before .loop .inv .1, subst (λ (m : ℕ). BothSigns (s .n) (words (s .row .now)) m (c .before .loop .table)) e (c .before .loop .inv .2))
+    let at = c .before .loop in
+    let e : at .i ≡ s .n = omega arith in
+    (at .inv .1, subst (λ (m : ℕ). BothSigns (s .n) (words (s .row .now)) m (at .table)) e (at .inv .2))
 
 pub both-signs-spec : {M : Type 1} → statement M
 both-signs-spec =

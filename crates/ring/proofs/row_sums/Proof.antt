@@ -38,17 +38,22 @@ loop-less : tie.Need-loop-less Inv-loop μ-loop
 loop-less c = search needs
 
 loop-again : tie.Need-loop-again Inv-loop μ-loop
-loop-again c = (
-  omega arith,
-  omega arith,
-  row-more (c .before .before .before .before .before .before .before .before .args .n) (c .before .before .before .before .before .loop .i) (c .before .before .before .word-at .result) (words (c .before .before .before .before .before .before .before .before .args .small .now)) (c .before .before .before .before .before .before .before .before .args .table .now) (c .before .before .before .before .before .loop .acc) (c .before .add-scaled .last .0) (c .before .before .before .word-at .ensures) (c .before .before .before .before .before .loop .inv .2) (c .before .add-scaled .ensures),
-)
+loop-again c =
+    let s = c .before .before .before .before .before .before .before .before .args in
+    let at = c .before .before .before .before .before .loop in
+    let read = c .before .before .before .word-at in
+    let added = c .before .add-scaled in (
+      omega arith,
+      omega arith,
+      row-more (s .n) (at .i) (read .result) (words (s .small .now)) (s .table .now) (at .acc) (added .last .0) (read .ensures) (at .inv .2) (added .ensures),
+    )
 
 returns : tie.Need-returns Inv-loop μ-loop
 returns c =
     let s = c .before .before .before .before .args in
-    let e : c .before .loop .i ≡ s .n = omega arith in
-    (c .before .loop .inv .1, subst (λ (m : ℕ). Starts (s .n) (λ k. rowSum (s .n) (words (s .small .now)) (s .table .now) m k % 2 ^ 32) (c .before .loop .acc)) e (c .before .loop .inv .2))
+    let at = c .before .loop in
+    let e : at .i ≡ s .n = omega arith in
+    (at .inv .1, subst (λ (m : ℕ). Starts (s .n) (λ k. rowSum (s .n) (words (s .small .now)) (s .table .now) m k % 2 ^ 32) (at .acc)) e (at .inv .2))
 
 pub row-sums-spec : {M : Type 1} → statement M
 row-sums-spec =

@@ -69,7 +69,7 @@ add-result-3 : tie.Need-add-result-3
 add-result-3 c = search needs
 
 returns : tie.Need-returns
-returns c = omega (arith, words-at (c .before .before .before .before .before .before .before .before .before .args .s .now) (c .before .before .before .before .before .before .before .before .before .args .i) (c .before .before .before .before .before .before .before .before .before .pre))
+returns c = let s = c .before .before .before .before .before .before .before .before .before in omega (arith, words-at (s .args .s .now) (s .args .i) (s .pre))
 
 pub word-at-spec : {M : Type 1} → statement M
 word-at-spec =
