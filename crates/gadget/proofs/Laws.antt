@@ -11,7 +11,7 @@ use lib.Pow.{pow-pos, pow-mono}
 use Rattle.torus.specs.Sum.{sum}
 use Rattle.torus.specs.Word.{sub, magnitude, distance}
 use Rattle.torus.proofs.Sums.{sum-cong}
-use Rattle.torus.proofs.Near.{Near, near-refl, near-path, near-sym, congruent-trans, congruent-add, near-mod, near-eq, eq-near}
+use Rattle.torus.proofs.Near.{Near, near-refl, near-path, near-sym, near-cancel, congruent-trans, congruent-add, near-mod, near-eq, eq-near}
 use Rattle.torus.proofs.Magnitudes.{near-magnitude}
 use Rattle.gadget.specs.Digits.{Lawful, step, precision, half, rounded, weighted, balance, offset, signed, digit, InRange}
 use Rattle.gadget.proofs.Rounding.{rounded-word, rounded-close, rounded-near, rounded-multiple}
@@ -46,13 +46,10 @@ digits-same g L w ok =
     ∙ add-mul-mod-self-right (rounded g L w) (horner g L (λ j. half g)) (step g L)
     ∙ rounded-multiple g L w (ok .room) in
     let whole : weighted g L (place g t) ≡ t % 2 ^ 32 = omega (arith, places g t L (ok .room)) in
-    cancel O
+    near-cancel O
     (congruent-trans (near-path (sym (weighted-add g L (signed g t) (λ j. half g))))
     (congruent-trans (weighted-same g L (λ j. signed g t j + half g) (place g t) (λ j. unsigned g t j (ok .high)))
     (congruent-trans (near-path whole) (near-mod t))))
-  where
-    cancel : {x y : ℕ} (z : ℕ) → Near (2 ^ 32) 0 (x + z) (y + z) → Near (2 ^ 32) 0 x y
-    cancel z h = record { u = h .u; v = h .v; s = h .s; t = h .t; same = omega (arith, h .same); small = h .small }
 
 -- The digits add up to the rounded word.
 pub digits-sum : (g L w : ℕ) → Lawful g L → weighted g L (digit g L w) % 2 ^ 32 ≡ rounded g L w

@@ -1,7 +1,7 @@
 -- The terms of a product: its coefficients by the formula, the unit, and commutativity.
 -- Assumes nothing.
 use mathlib.Core.Path.{_≡_, refl, ap, ap₂, sym, _∙_}
-use mathlib.Core.Logic.{_⊎_, inl, inr}
+use mathlib.Core.Logic.{_⊎_, inl, inr, _≢_}
 use Prim.Native.Nat.{ℕ, zero, suc, _+_, _*_, _-_, _%_, _^_, _≤_, _<_}
 use native.Mathlib.Nat.{add-zero, zero-add, mul-zero, mul-one, mul-comm, sub-zero, le-of-suc-le-suc, eq-or-lt-of-le, mod-lt}
 use native.Mathlib.Omega.{arith}
@@ -35,24 +35,17 @@ unfolding unit
 unit-same zero = refl
 unit-same (suc i) = unit-same i
 
-pub unit-below : (i k : ℕ) → i < k → unit i k ≡ 0
+pub unit-other : (i k : ℕ) → i ≢ k → unit i k ≡ 0
 unfolding unit
-unit-below zero zero l = absurd (omega arith)
-unit-below zero (suc k) l = refl
-unit-below (suc i) zero l = refl
-unit-below (suc i) (suc k) l = unit-below i k (le-of-suc-le-suc l)
-
-pub unit-above : (i k : ℕ) → k < i → unit i k ≡ 0
-unfolding unit
-unit-above zero zero l = absurd (omega arith)
-unit-above zero (suc k) l = refl
-unit-above (suc i) zero l = refl
-unit-above (suc i) (suc k) l = unit-above i k (le-of-suc-le-suc l)
+unit-other zero zero h = absurd (h refl)
+unit-other zero (suc k) h = refl
+unit-other (suc i) zero h = refl
+unit-other (suc i) (suc k) h = unit-other i k (λ e. h (ap suc e))
 
 pick-none : (n k : ℕ) (p : Poly) → n ≤ k → sum n (λ i. p i * unit i k) ≡ 0
 unfolding sum
 pick-none zero k p l = refl
-pick-none (suc n) k p l = ap₂ _+_ (pick-none n k p (omega arith)) (ap (λ x. p n * x) (unit-below n k l) ∙ mul-zero (p n))
+pick-none (suc n) k p l = ap₂ _+_ (pick-none n k p (omega arith)) (ap (λ x. p n * x) (unit-other n k (omega arith)) ∙ mul-zero (p n))
 
 -- The sum of p_i·X^i has p's coefficients.
 pick-one : (n k : ℕ) (p : Poly) → k < n → sum n (λ i. p i * unit i k) ≡ p k
@@ -62,7 +55,7 @@ pick-one (suc n) k p l = go (eq-or-lt-of-le (le-of-suc-le-suc l)) (pick-one n k 
   where
     go : (k ≡ n) ⊎ (k < n) → (k < n → sum n (λ i. p i * unit i k) ≡ p k) → sum n (λ i. p i * unit i k) + p n * unit n k ≡ p k
     go (inl e) ih = rw e (ap₂ _+_ (pick-none n n p (omega arith)) (ap (λ x. p n * x) (unit-same n) ∙ mul-one (p n)) ∙ zero-add (p n))
-    go (inr h) ih = ap₂ _+_ (ih h) (ap (λ x. p n * x) (unit-above n k h) ∙ mul-zero (p n)) ∙ add-zero (p k)
+    go (inr h) ih = ap₂ _+_ (ih h) (ap (λ x. p n * x) (unit-other n k (omega arith)) ∙ mul-zero (p n)) ∙ add-zero (p k)
 
 module _ (z N : ℕ) where
   -- ---- coefficients
@@ -107,7 +100,7 @@ module _ (z N : ℕ) where
 
   rot-unit : (i : ℕ) → suc i < N → Agree N (rot z N (unit i)) (unit (suc i))
   unfolding rot unit
-  rot-unit i l zero h = ap (λ x. z * x) (unit-below i (N - 1) (omega arith)) ∙ mul-zero z
+  rot-unit i l zero h = ap (λ x. z * x) (unit-other i (N - 1) (omega arith)) ∙ mul-zero z
   rot-unit i l (suc k) h = refl
 
   pub rotn-unit : (i : ℕ) → i < N → Agree N (rotn z N i (unit 0)) (unit i)

@@ -3,7 +3,7 @@
 -- Assumes nothing.
 use mathlib.Core.Path.{_≡_, refl, ap, sym, _∙_, subst}
 use Prim.Native.Nat.{ℕ, zero, suc, _+_, _*_, _/_, _%_, _≤_, _<_}
-use native.Mathlib.Nat.{mul-le-mul, le-refl, le-trans, le-of-eq, zero-add, mul-zero, one-mul, mod-add-div', add-mul-mod-self-right}
+use native.Mathlib.Nat.{mul-le-mul, le-refl, le-trans, le-of-eq, zero-add, add-comm, mul-zero, one-mul, mod-add-div', add-mul-mod-self-right}
 use native.Mathlib.Omega.{arith}
 use Rattle.torus.specs.Sum.{sum}
 
@@ -29,16 +29,6 @@ module _ {Q : ℕ} where
   pub near-weaken : {A B x y : ℕ} → A ≤ B → Near Q A x y → Near Q B x y
   near-weaken l h = record { u = h .u; v = h .v; s = h .s; t = h .t; same = h .same; small = le-trans (h .small) l }
 
-  pub near-trans : {A B x y w : ℕ} → Near Q A x y → Near Q B y w → Near Q (A + B) x w
-  near-trans h k = record {
-    u = h .u + k .u;
-    v = h .v + k .v;
-    s = h .s + k .s;
-    t = h .t + k .t;
-    same = omega (arith, h .same, k .same);
-    small = omega (arith, h .small, k .small);
-  }
-
   pub near-add : {A B x y x′ y′ : ℕ} → Near Q A x y → Near Q B x′ y′ → Near Q (A + B) (x + x′) (y + y′)
   near-add h k = record {
     u = h .u + k .u;
@@ -48,6 +38,12 @@ module _ {Q : ℕ} where
     same = omega (arith, h .same, k .same);
     small = omega (arith, h .small, k .small);
   }
+
+  pub near-cancel : (z : ℕ) {A x y : ℕ} → Near Q A (x + z) (y + z) → Near Q A x y
+  near-cancel z h = record { u = h .u; v = h .v; s = h .s; t = h .t; same = omega (arith, h .same); small = h .small }
+
+  pub near-trans : {A B x y w : ℕ} → Near Q A x y → Near Q B y w → Near Q (A + B) x w
+  near-trans {A} {B} {x} {y} {w} h k = near-cancel y (subst (λ v. Near Q (A + B) (x + y) v) (add-comm y w) (near-add h k))
 
   pub near-scale : (c : ℕ) {A x y : ℕ} → Near Q A x y → Near Q (c * A) (c * x) (c * y)
   near-scale c h = record {

@@ -75,7 +75,7 @@ fn run_all_digits(input: &[u8]) -> usize
     1 + 3 * count
 }
 
-// out plus digit polynomial j of x times row, where the four slices are polynomials of one degree n.
+// out becomes start plus digit polynomial j of x times row, and is printed. All slices are polynomials of degree n.
 fn run_product(
     digits: &mut [u8],
     out: &mut [u8],

@@ -31,11 +31,12 @@ wide-requires-2 c κs = search needs
 lawful-requires : tie.Need-lawful-requires
 lawful-requires c κs = search needs
 
+-- What the test tells.
+lawful : (c : tie.Then1) → Lawful (c .before .before .before .before .before .before .input-word .result) (c .before .before .before .before .before .input-word2 .result)
+lawful c = rw (← c .before .before .before .wide .ensures, ← c .before .before .wide2 .ensures) (test-lawful _ _ (sym (c .before .lawful .ensures) ∙ c .if1 .taken))
+
 decompose-requires : tie.Need-decompose-requires
-decompose-requires c κs =
-    let lawful : Lawful (c .before .before .before .before .before .before .input-word .result) (c .before .before .before .before .before .input-word2 .result) =
-    rw (← c .before .before .before .wide .ensures, ← c .before .before .wide2 .ensures) (test-lawful _ _ (sym (c .before .lawful .ensures) ∙ c .if1 .taken)) in
-    lawful
+decompose-requires c κs = lawful c
 
 slice-aggregate-print-digits : tie.Need-slice-aggregate-print-digits
 slice-aggregate-print-digits c = search needs
@@ -44,10 +45,7 @@ cast-print-digits : tie.Need-cast-print-digits
 cast-print-digits c = search needs
 
 print-digits-requires : tie.Need-print-digits-requires
-print-digits-requires c κs =
-    let lawful : Lawful (c .before .before .before .before .before .before .before .before .input-word .result) (c .before .before .before .before .before .before .before .input-word2 .result) =
-    rw (← c .before .before .before .before .before .wide .ensures, ← c .before .before .before .before .wide2 .ensures) (test-lawful _ _ (sym (c .before .before .before .lawful .ensures) ∙ c .before .before .if1 .taken)) in
-    omega (arith, count-le _ _ lawful)
+print-digits-requires c κs = omega (arith, count-le _ _ (lawful (c .before .before)))
 
 returns : tie.Need-returns
 returns c = search needs
