@@ -4,7 +4,7 @@
 -- Assumes nothing.
 use mathlib.Core.Path.{_≡_, refl, ap, sym, _∙_, fun-ext}
 use Prim.Native.Nat.{ℕ, zero, suc, _+_, _*_, _-_, _<_}
-use native.Mathlib.Nat.{add-zero, mul-zero, zero-mul, mul-add, add-mul, mul-assoc, mul-left-comm}
+use native.Mathlib.Nat.{mul-zero, zero-mul, mul-add, add-mul, mul-assoc, mul-left-comm}
 use Rattle.torus.specs.Sum.{sum}
 use Rattle.torus.proofs.Sums.{sum-cong, sum-add}
 
@@ -51,10 +51,6 @@ scale-mul c d p = fun-ext λ k. mul-assoc c d (p k)
 pub zero-scale : (p : Poly) → 0 ⊙ p ≡ nil
 unfolding _⊙_ nil
 zero-scale p = fun-ext λ k. zero-mul (p k)
-
-pub add-nil : (p : Poly) → p ⊕ nil ≡ p
-unfolding _⊕_ nil
-add-nil p = fun-ext λ k. add-zero (p k)
 
 pub psum-zero : (f : ℕ → Poly) → psum 0 f ≡ nil
 unfolding psum sum nil
