@@ -1,5 +1,5 @@
 // The product kernel beside the same schoolbook in C, in one process: each round runs every variant in turn.
-// The outputs are compared first. Times are ratios to C at -O3; a machine's load moves all of a round alike.
+// The outputs are compared first. Times are ratios to C at -O3 in the same round, since a machine's load changes.
 #include <stdint.h>
 #include <stdio.h>
 #include <stdlib.h>

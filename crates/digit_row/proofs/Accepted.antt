@@ -1,23 +1,19 @@
--- What an accepted call has, and that its digits are a small factor.
+-- What an accepted call has, and every byte that it leaves.
 -- Assumes nothing.
 use mathlib.Core.Path.{_≡_, ap, sym, _∙_}
 use mathlib.Core.List.{List}
-use Prim.Native.Nat.{ℕ, _*_, _^_, _≤_, _<_}
-use native.Mathlib.Nat.{le-trans}
+use Prim.Native.Nat.{ℕ, _*_, _≤_, _<_}
 use lib.Dec.{eqb, leb}
 use lib.ListN.{length, getD}
 use borrow.Author.Tests.{eqb-true, leb-true}
-use Rattle.torus.specs.Word.{magnitude}
 use Rattle.torus.specs.Bytes.{words, bytes}
 use Rattle.torus.proofs.Tests.{held}
-use Rattle.torus.proofs.Lists.{tabulate-at}
 use Rattle.torus.proofs.Parts.{bytes-words}
-use Rattle.gadget.specs.Digits.{Lawful, isLawful}
+use Rattle.gadget.specs.Digits.{Lawful, isLawful, digitPolynomial}
 use Rattle.gadget.proofs.Bounds.{test-lawful}
-use Rattle.gadget.proofs.Laws.{digit-magnitude, half-le}
-use Rattle.ring.specs.Polynomial.{Degree, isDegree, coefficients, addProduct}
+use Rattle.ring.specs.Polynomial.{Degree, isDegree, addProduct}
 use Rattle.ring.proofs.Degrees.{test-degree}
-use Rattle.digit_row.specs.Call.{number, digitPolynomial, digitBytes, sumBytes}
+use Rattle.digit_row.specs.Call.{number, digitBytes, sumBytes}
 
 pub record Fit (N g L j x row digits out : ℕ) : Type 0 where
   pub degree : Degree N
@@ -50,13 +46,6 @@ accepted N g L j x row digits out e =
       digits-length = eqb-true digits (4 * N) (i .0);
       out-length = eqb-true out (4 * N) (k .0);
     }
-
--- The digits of a lawful gadget are small.
-pub digits-small : (N g L j : ℕ) (x ds : List ℕ) → Lawful g L → ds ≡ digitPolynomial N g L j x
-    → (i : ℕ) → i < N → magnitude (coefficients ds i) ≤ 2 ^ 15
-unfolding digitPolynomial
-digits-small N g L j x ds ok e i l =
-    rw (e, tabulate-at N _ i l) (le-trans (digit-magnitude g L (coefficients x i) j ok) (half-le g (ok .high)))
 
 -- Every byte of the digits, and of the accumulator.
 module _ (N g L j : ℕ) (x : List ℕ) (digits : List ℕ) (e : words digits ≡ digitPolynomial N g L j (words x)) where

@@ -5,10 +5,9 @@ use mathlib.Core.Bool.{cond}
 use mathlib.Core.List.{List}
 use Prim.Native.Nat.{ℕ, _*_}
 use lib.Dec.{eqb, leb}
-use lib.ListN.{length, getD}
-use Rattle.torus.specs.Sum.{tabulate}
+use lib.ListN.{length}
 use Rattle.torus.specs.Bytes.{words, bytes}
-use Rattle.gadget.specs.Digits.{isLawful, digit}
+use Rattle.gadget.specs.Digits.{isLawful, digitPolynomial}
 use Rattle.ring.specs.Polynomial.{isDegree, addProduct}
 
 -- 0 if all fits, else by the first fault: 1 the degree, 2 the gadget, 4 the number j of the digit, 5 a length in bytes.
@@ -21,10 +20,6 @@ number N g L j x row digits out =
     4) 4)
     2)
     1
-
--- Digit j of every word: a polynomial with small coefficients.
-unfoldable pub digitPolynomial : (N g L j : ℕ) → List ℕ → List ℕ
-digitPolynomial N g L j x = tabulate N (λ i. digit g L (getD x i 0) j)
 
 -- The bytes of the digits, and those of the accumulator, after an accepted call.
 unfoldable pub digitBytes : (N g L j : ℕ) → List ℕ → List ℕ

@@ -1,13 +1,13 @@
 -- The limits on the base and the number of digits, as facts and as a test.
 -- Assumes nothing.
-use mathlib.Core.Path.{_≡_, refl, sym}
-use mathlib.Core.Bool.{Bool, true, false}
+use mathlib.Core.Path.{_≡_}
+use mathlib.Core.Bool.{true, false}
 use Prim.Native.Nat.{ℕ, _*_, _≤_}
 use native.Mathlib.Nat.{mul-le-mul-left, mul-le-mul-right, one-mul, mul-one}
 use native.Mathlib.Omega.{arith}
 use lib.Dec.{leb}
 use borrow.Author.Tests.{leb-true, le-leb}
-use Rattle.torus.proofs.Tests.{both}
+use Rattle.torus.proofs.Tests.{both, refuted}
 use Rattle.gadget.specs.Digits.{Lawful, isLawful}
 
 pub test-lawful : (g L : ℕ) → isLawful g L ≡ true → Lawful g L
@@ -27,11 +27,7 @@ lawful-test g L ok = simp (le-leb 1 g (ok .low), le-leb g 16 (ok .high), le-leb 
 
 -- What is not lawful fails the test.
 pub refused : (g L : ℕ) → (Lawful g L → ⊥) → false ≡ isLawful g L
-refused g L n = go (isLawful g L) refl
-  where
-    go : (b : Bool) → isLawful g L ≡ b → false ≡ isLawful g L
-    go true e = absurd (n (test-lawful g L e))
-    go false e = sym e
+refused g L never = refuted (isLawful g L) (test-lawful g L) never
 
 -- Where the other limits hold, the test is that of the room.
 pub room-only : (g L : ℕ) → 1 ≤ g → g ≤ 16 → 1 ≤ L → leb (g * L) 32 ≡ isLawful g L

@@ -1,17 +1,18 @@
--- The digits of a word as a list.
+-- The digits of a word as a list, and digit polynomials.
 -- Assumes nothing.
 use mathlib.Core.Path.{_≡_, sym, ap, _∙_}
 use mathlib.Core.Logic.{⊎-elim}
 use mathlib.Core.List.{List, _++_}
 use Prim.Native.Nat.{ℕ, zero, suc, _+_, _-_, _*_, _%_, _^_, _≤_, _<_, zero-le}
-use native.Mathlib.Nat.{eq-or-lt-of-le}
+use native.Mathlib.Nat.{le-trans, eq-or-lt-of-le}
 use native.Mathlib.Omega.{arith}
 use lib.ListN.{length, getD, set, replicate, length-append, length-replicate, getD-replicate, List·getD-append}
 use lib.Seq.{ext-getD, getD-append-add, getD-set-same, getD-set-other}
 use Rattle.torus.specs.Sum.{sum}
+use Rattle.torus.specs.Word.{magnitude}
 use Rattle.torus.proofs.Lists.{length-tabulate, tabulate-at}
-use Rattle.gadget.specs.Digits.{Lawful, InRange, step, rounded, digit, digits}
-use Rattle.gadget.proofs.Laws.{digits-unique}
+use Rattle.gadget.specs.Digits.{Lawful, InRange, step, rounded, digit, digits, digitPolynomial}
+use Rattle.gadget.proofs.Laws.{digits-unique, digit-magnitude, half-le}
 
 pub length-digits : (g L w : ℕ) → length (digits g L w) ≡ L
 unfolding digits
@@ -35,6 +36,18 @@ list-unique g L w ds ok len h e =
     range : (j : ℕ) → 1 ≤ j → j ≤ L → InRange g (at j)
     range zero l u = absurd (omega arith)
     range (suc i) l u = h i u
+
+-- ---- digit polynomials
+
+pub digit-polynomial-at : (N g L j : ℕ) (x : List ℕ) (i : ℕ) → i < N → getD (digitPolynomial N g L j x) i 0 ≡ digit g L (getD x i 0) j
+unfolding digitPolynomial
+digit-polynomial-at N g L j x i h = tabulate-at N _ i h
+
+-- Its coefficients are small enough for the product kernel.
+pub digit-polynomial-small : (N g L j : ℕ) (x : List ℕ) → Lawful g L → (i : ℕ) → i < N
+    → magnitude (getD (digitPolynomial N g L j x) i 0) ≤ 2 ^ 15
+digit-polynomial-small N g L j x ok i h =
+    rw (digit-polynomial-at N g L j x i h) (le-trans (digit-magnitude g L (getD x i 0) j ok) (half-le g (ok .high)))
 
 -- ---- the digits, and zeros up to 32
 

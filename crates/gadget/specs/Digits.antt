@@ -7,6 +7,7 @@ use mathlib.Core.Bool.{Bool, _&&_, cond}
 use mathlib.Core.List.{List}
 use Prim.Native.Nat.{ℕ, suc, _+_, _-_, _*_, _/_, _%_, _^_, _≤_, _<_}
 use lib.Dec.{leb, ltb}
+use lib.ListN.{getD}
 use Rattle.torus.specs.Sum.{sum, tabulate}
 use Rattle.torus.specs.Word.{sub}
 
@@ -62,6 +63,10 @@ digit g L w j = signed g (rounded g L w + balance g L) j
 -- All L digits of w, digit 1 first.
 unfoldable pub digits : ℕ → ℕ → ℕ → List ℕ
 digits g L w = tabulate L (λ i. digit g L w (suc i))
+
+-- The digit polynomial: digit j of each of the first N words of x. In the thesis (Algorithm 1, step 5) it is u_(i,p), with j for p.
+unfoldable pub digitPolynomial : (N g L j : ℕ) → List ℕ → List ℕ
+digitPolynomial N g L j x = tabulate N (λ i. digit g L (getD x i 0) j)
 
 -- What the code adds to a word in place of rounding it and adding the balance.
 unfoldable pub offset : ℕ → ℕ → ℕ

@@ -2,8 +2,7 @@
 ghost use mathlib.Core.Path.{_≡_};
 ghost use mathlib.Core.List.{_++_};
 ghost use Prim.Native.Nat.{_-_, _*_, _%_, _^_, _≤_, _<_};
-ghost use lib.ListN.{length, getD, replicate};
-ghost use Rattle.torus.specs.Sum.{tabulate};
+ghost use lib.ListN.{length, replicate};
 ghost use Rattle.torus.specs.Word as W;
 ghost use Rattle.torus.specs.Bytes.{words};
 ghost use Rattle.gadget.specs.Digits as D;
@@ -95,12 +94,11 @@ pub fn decompose(w: u32, g: u32, l: u32) -> [u32; 32]
     out
 }
 
-// The n words of out become digit j of each of the n words of x.
+// The n words of out become the digit polynomial of x: digit j of each of its n words.
 pub fn write_digits(out: &mut [u8], x: &[u8], n: usize, g: u32, l: u32, j: u32)
     requires { ⌜ D.Lawful g l × (1 ≤ j) × (j ≤ l)
         × (length (now out) ≡ 4 * n) × (length (now x) ≡ 4 * n) ⌝ }
-    ensures { λ _. ⌜ words (now (out .exit))
-        ≡ tabulate n (λ i. D.digit g l (getD (words (now (x .entry))) i 0) j) ⌝ }
+    ensures { λ _. ⌜ words (now (out .exit)) ≡ D.digitPolynomial n g l j (words (now (x .entry))) ⌝ }
 {
     let o = offset(g, l);
     let mut i = 0;

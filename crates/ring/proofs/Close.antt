@@ -7,8 +7,8 @@ use native.Mathlib.Omega.{arith}
 use Rattle.torus.specs.Sum.{sum}
 use Rattle.torus.proofs.Sums.{sum-const, sum-mul}
 use Rattle.torus.proofs.Near.{Near, near-path, near-sym, near-trans, near-add, near-scale, near-mul, near-sum, near-weaken, near-neg}
+use Rattle.ring.specs.Polynomial.{Agree}
 use Rattle.ring.proofs.Poly.{Poly, _⊕_, _⊙_, nil, psum, rot, rotn, mul}
-use Rattle.ring.proofs.Terms.{Agree}
 
 -- The first N coefficients are within A of each other, modulo Q.
 abbrev pub Close : ℕ → ℕ → ℕ → Poly → Poly → Type 0

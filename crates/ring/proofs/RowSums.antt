@@ -4,7 +4,7 @@ use mathlib.Core.Path.{_≡_, ap, ap₂, sym, _∙_}
 use mathlib.Core.Logic.{_⊎_, inl, inr}
 use mathlib.Core.List.{List}
 use Prim.Native.Nat.{ℕ, suc, _+_, _-_, _*_, _%_, _^_, _≤_, _<_}
-use native.Mathlib.Nat.{le-refl, zero-mul, mul-comm, mod-add-mod, add-mod-mod, eq-or-lt-of-le}
+use native.Mathlib.Nat.{zero-add, zero-mul, mul-comm, mod-add-mod, add-mod-mod, eq-or-lt-of-le}
 use native.Mathlib.Numerals.{add-one}
 use native.Mathlib.Omega.{arith}
 use lib.ListN.{length, getD, set, replicate, length-set, getD-replicate}
@@ -13,9 +13,9 @@ use Rattle.torus.specs.Sum.{sum, tabulate}
 use Rattle.torus.specs.Word.{add, sub, mul}
 use Rattle.torus.proofs.Sums.{sum-cong, sum-mul}
 use Rattle.torus.proofs.Lists.{tabulate-cong}
-use Rattle.torus.proofs.Near.{Near, near-path, near-refl, congruent-trans, congruent-add, congruent-scale, congruent-sum, near-mod, near-eq}
-use Rattle.ring.specs.Polynomial.{coefficients, inside, passed, product, addProduct}
-use Rattle.ring.specs.Rows.{BothSigns, Starts, rowSum}
+use Rattle.torus.proofs.Near.{Near, near-path, near-refl, congruent-trans, congruent-add, congruent-scale, congruent-sum, near-eq, sub-near}
+use Rattle.ring.specs.Polynomial.{coefficients, Agree, inside, passed, product, addProduct}
+use Rattle.ring.specs.Rows.{BothSigns, rowSum}
 use Rattle.ring.proofs.Terms.{sum-split, minus-word}
 
 -- ---- the table
@@ -42,28 +42,22 @@ signs-more n m p t v w len l h ew ev i li =
 -- ---- rows
 
 -- To add 0 times anything changes nothing.
-pub add-none : (n : ℕ) (l : List ℕ) (g : ℕ → ℕ) → ((i : ℕ) → getD l i 0 < 2 ^ 32) → Starts n (λ k. add (getD l k 0) (mul 0 (g k))) l
+pub add-none : (n : ℕ) (l : List ℕ) (g : ℕ → ℕ) → ((i : ℕ) → getD l i 0 < 2 ^ 32) → Agree n (coefficients l) (λ k. add (coefficients l k) (mul 0 (g k)))
 add-none n l g h k b = let word : getD l k 0 < 2 ^ 32 = h k in omega (arith, zero-mul (g k))
 
-pub row-none : (n size : ℕ) (y t : List ℕ) → n ≤ size → Starts n (λ k. rowSum n y t 0 k % 2 ^ 32) (replicate size 0)
+pub row-none : (n size : ℕ) (y t : List ℕ) → n ≤ size → Agree n (coefficients (replicate size 0)) (λ k. rowSum n y t 0 k % 2 ^ 32)
 unfolding rowSum sum
 row-none n size y t l k b = getD-replicate size k 0 0 (omega arith)
 
 -- One row more: d times the words of the table from place n - m on.
-pub row-more : (n m d : ℕ) (y t acc acc′ : List ℕ) → d ≡ coefficients y m → Starts n (λ k. rowSum n y t m k % 2 ^ 32) acc
-    → Starts n (λ k. add (coefficients acc k) (mul d (coefficients t (n - m + k)))) acc′
-    → Starts n (λ k. rowSum n y t (m + 1) k % 2 ^ 32) acc′
+pub row-more : (n m d : ℕ) (y t acc acc′ : List ℕ) → d ≡ coefficients y m → Agree n (coefficients acc) (λ k. rowSum n y t m k % 2 ^ 32)
+    → Agree n (coefficients acc′) (λ k. add (coefficients acc k) (mul d (coefficients t (n - m + k))))
+    → Agree n (coefficients acc′) (λ k. rowSum n y t (m + 1) k % 2 ^ 32)
 unfolding rowSum sum
 row-more n m d y t acc acc′ ed before step k b = rw (add-one m)
     (step k b ∙ ap₂ (λ x c. add x (mul c (coefficients t (n - m + k)))) (before k b) ed
     ∙ mod-add-mod (rowSum n y t m k) (2 ^ 32) _
     ∙ add-mod-mod (rowSum n y t m k) (coefficients y m * coefficients t (n - m + k)) (2 ^ 32))
-
--- -x as a word is 2^32 - 1 times x.
-minus-near : (x : ℕ) → x ≤ 2 ^ 32 → Near (2 ^ 32) 0 (sub 0 x) (4294967295 * x)
-minus-near x h =
-    congruent-trans (near-mod (0 + (2 ^ 32 - x)))
-    (record { u = 0; v = 0; s = x; t = 1; same = omega arith; small = le-refl 0 })
 
 module _ (n : ℕ) (y p t : List ℕ) (words : (i : ℕ) → coefficients p i < 2 ^ 32) (signs : BothSigns n p n t) (k : ℕ) (l : k < n) where
   low : (i : ℕ) → i < suc k → coefficients t (n - i + k) ≡ coefficients p (k - i)
@@ -77,7 +71,7 @@ module _ (n : ℕ) (y p t : List ℕ) (words : (i : ℕ) → coefficients p i < 
       let lj : j < n = omega arith in
       let word : coefficients p j < 2 ^ 32 = words j in
       let negated : Near (2 ^ 32) 0 (coefficients t (n - (suc k + i) + k)) (4294967295 * coefficients p j) =
-      congruent-trans (near-path (ap (coefficients t) e ∙ signs j lj .0)) (minus-near (coefficients p j) (omega arith)) in
+      congruent-trans (near-path (ap (coefficients t) e ∙ signs j lj .0)) (congruent-trans (sub-near 0 (coefficients p j) (omega arith)) (near-path (zero-add _))) in
       congruent-trans (congruent-scale (coefficients y (suc k + i)) negated) (near-path (omega arith))
 
   -- The sum of all rows is the product.
@@ -94,7 +88,7 @@ module _ (n : ℕ) (y p t : List ℕ) (words : (i : ℕ) → coefficients p i < 
 
 -- The sums added to out make up the polynomial with the product added.
 pub sums-added : (n : ℕ) (out y p t sums : List ℕ) → ((i : ℕ) → coefficients p i < 2 ^ 32) → BothSigns n p n t
-    → Starts n (λ k. rowSum n y t n k % 2 ^ 32) sums
+    → Agree n (coefficients sums) (λ k. rowSum n y t n k % 2 ^ 32)
     → tabulate n (λ k. add (coefficients out k) (coefficients sums k)) ≡ addProduct n out y p
 unfolding addProduct
 sums-added n out y p t sums words signs h =

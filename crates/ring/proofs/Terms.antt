@@ -3,19 +3,15 @@
 use mathlib.Core.Path.{_≡_, refl, ap, ap₂, sym, _∙_}
 use mathlib.Core.Logic.{_⊎_, inl, inr, _≢_}
 use Prim.Native.Nat.{ℕ, zero, suc, _+_, _*_, _-_, _%_, _^_, _≤_, _<_}
-use native.Mathlib.Nat.{add-zero, zero-add, mul-zero, mul-one, mul-comm, sub-zero, le-of-suc-le-suc, eq-or-lt-of-le, mod-lt}
+use native.Mathlib.Nat.{add-zero, zero-add, mul-zero, mul-one, mul-comm, sub-zero, le-of-suc-le-suc, eq-or-lt-of-le, mod-lt, mod-mod}
 use native.Mathlib.Omega.{arith}
 use lib.Dec.{lit<}
 use Rattle.torus.specs.Sum.{sum}
 use Rattle.torus.specs.Word.{sub}
 use Rattle.torus.proofs.Sums.{sum-cong, sum-mul, sum-append}
-use Rattle.torus.proofs.Near.{congruent-trans, congruent-add, congruent-scale, near-mod, near-eq, near-minus}
-use Rattle.ring.specs.Polynomial.{inside, passed, product}
+use Rattle.torus.proofs.Near.{congruent-trans, congruent-add, congruent-scale, near-mod, near-eq, sub-near}
+use Rattle.ring.specs.Polynomial.{Agree, inside, passed, product}
 use Rattle.ring.proofs.Poly.{Poly, _⊙_, psum, rot, rotn, mul, mul-mul}
-
--- Equal in the first N coefficients.
-abbrev pub Agree : ℕ → Poly → Poly → Type 0
-Agree N p q = (k : ℕ) → k < N → p k ≡ q k
 
 -- A sum of N terms, taken apart after term k.
 pub sum-split : (N k : ℕ) (f : ℕ → ℕ) → k < N → sum N f ≡ sum (suc k) f + sum (N - suc k) (λ i. f (suc k + i))
@@ -123,9 +119,9 @@ module _ (z N : ℕ) where
 -- The word of a difference of two sums.
 pub minus-word : (a b : ℕ) → sub (a % 2 ^ 32) (b % 2 ^ 32) ≡ (a + 4294967295 * b) % 2 ^ 32
 minus-word a b =
-    near-eq {Q = 2 ^ 32} (congruent-trans
-    (near-minus 4294967295 (a % 2 ^ 32) (b % 2 ^ 32) (a % 2 ^ 32 + (2 ^ 32 - b % 2 ^ 32))
-    (record { u = 0; v = 0; s = 0; t = 1; same = omega (arith, mod-lt b {m = 2 ^ 32} (lit< tt)); small = omega arith }))
+    let word : b % 2 ^ 32 < 2 ^ 32 = mod-lt b (lit< tt) in
+    sym (mod-mod (a % 2 ^ 32 + (2 ^ 32 - b % 2 ^ 32)) (2 ^ 32))
+    ∙ near-eq (congruent-trans (sub-near (a % 2 ^ 32) (b % 2 ^ 32) (omega arith))
     (congruent-add (near-mod a) (congruent-scale 4294967295 (near-mod b))))
 
 -- The product of the definitions is that of the ring laws.

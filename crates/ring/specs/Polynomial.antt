@@ -25,6 +25,10 @@ isDegree N = eqb (ones N) 1 && leb N 1024
 abbrev pub coefficients : List ℕ → ℕ → ℕ
 coefficients l i = getD l i 0
 
+-- Equal in the first N coefficients.
+abbrev pub Agree : ℕ → (ℕ → ℕ) → (ℕ → ℕ) → Type 0
+Agree N p q = (k : ℕ) → k < N → p k ≡ q k
+
 -- Of the terms of y·p that belong to coefficient k, those that stay below X^N: y_i·p_(k-i) for i up to k.
 abbrev pub inside : (ℕ → ℕ) → (ℕ → ℕ) → ℕ → ℕ
 inside y p k = sum (suc k) (λ i. y i * p (k - i))

@@ -12,10 +12,6 @@ abbrev pub BothSigns : ℕ → List ℕ → ℕ → List ℕ → Type 0
 BothSigns n p m table = (i : ℕ) → i < m
     → (coefficients table i ≡ sub 0 (coefficients p i)) × (coefficients table (n + i) ≡ coefficients p i)
 
--- The first n words of the array are f 0 to f (n - 1).
-abbrev pub Starts : ℕ → (ℕ → ℕ) → List ℕ → Type 0
-Starts n f array = (k : ℕ) → k < n → coefficients array k ≡ f k
-
 -- What the first m coefficients of y add to coefficient k of the product: y_i times word k of X^i·p, which is word n - i + k of
 -- the table.
 unfoldable pub rowSum : ℕ → List ℕ → List ℕ → ℕ → ℕ → ℕ

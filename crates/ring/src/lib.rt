@@ -5,8 +5,8 @@ ghost use lib.ListN.{length, getD};
 ghost use Rattle.torus.specs.Sum.{tabulate};
 ghost use Rattle.torus.specs.Word as W;
 ghost use Rattle.torus.specs.Bytes.{words};
-ghost use Rattle.ring.specs.Polynomial.{isDegree, Factors, addProduct};
-ghost use Rattle.ring.specs.Rows.{BothSigns, Starts, rowSum};
+ghost use Rattle.ring.specs.Polynomial.{isDegree, coefficients, Agree, Factors, addProduct};
+ghost use Rattle.ring.specs.Rows.{BothSigns, rowSum};
 
 // Whether n is a degree: a power of two has exactly one bit set.
 pub fn is_degree(n: u64) -> bool
@@ -34,13 +34,12 @@ fn both_signs(row: &[u8], n: usize) -> [u32; 2048]
     table
 }
 
-// To each of the first n words of acc, d times a word of the table, from place `from` on. A digit 0 costs nothing: the samples
-// at the leaves of a lookup are trivial, and most of their digits are 0.
+// To each of the first n words of acc, d times a word of the table, from place `from` on. A digit 0 costs nothing: the
+// difference of two trivial samples has the mask 0, and with it only digits 0 there.
 fn add_scaled(acc: &mut [u32], d: u32, table: &[u32], from: usize, n: usize)
     requires { ⌜ (n ≤ length (now acc)) × (from + n ≤ length (now table)) ⌝ }
-    ensures { λ _. ⌜ Starts n
-        (λ k. W.add (getD (now (acc .entry)) k 0) (W.mul d (getD (now (table .entry)) (from + k) 0)))
-        (now (acc .exit)) ⌝ }
+    ensures { λ _. ⌜ Agree n (coefficients (now (acc .exit)))
+        (λ k. W.add (coefficients (now (acc .entry)) k) (W.mul d (coefficients (now (table .entry)) (from + k)))) ⌝ }
 {
     if d == 0 {
         return;
@@ -57,7 +56,7 @@ fn add_scaled(acc: &mut [u32], d: u32, table: &[u32], from: usize, n: usize)
 fn row_sums(small: &[u8], table: &[u32], n: usize) -> [u32; 1024]
     requires { ⌜ (length (now small) ≡ 4 * n) × (length (now table) ≡ 2048) × (n ≤ 1024) ⌝ }
     ensures { λ r. ⌜ (length r ≡ 1024)
-        × Starts n (λ k. rowSum n (words (now (small .entry))) (now (table .entry)) n k % 2 ^ 32) r ⌝ }
+        × Agree n (coefficients r) (λ k. rowSum n (words (now (small .entry))) (now (table .entry)) n k % 2 ^ 32) ⌝ }
 {
     let mut acc = [0u32; 1024];
     let mut i = 0;

@@ -1,14 +1,14 @@
 -- Laws of magnitude and distance, and the way between distance and nearness.
 -- Assumes nothing.
-use mathlib.Core.Path.{_≡_, ap, _∙_, subst}
+use mathlib.Core.Path.{_≡_, ap, sym, _∙_, subst}
 use Prim.Native.Nat.{ℕ, _+_, _-_, _*_, _/_, _%_, _^_, _≤_, _<_, min}
-use native.Mathlib.Nat.{le-trans, le-antisymm, lt-of-not-le, mod-lt, mod-add-div', mul-zero, mul-le-mul-right, min-le-left, min-le-right}
+use native.Mathlib.Nat.{le-trans, le-antisymm, lt-of-not-le, mod-lt, mod-eq-of-lt, mod-add-div', mul-zero, mul-le-mul-right, min-le-left, min-le-right}
 use native.Mathlib.Decide.{decLe}
 use native.Mathlib.Omega.{arith}
 use lib.Dec.{lit<, lit≤}
 use borrow.Author.Tests.{lt-ltb, le-ltb}
 use Rattle.torus.specs.Word.{add, sub, mul, magnitude, distance}
-use Rattle.torus.proofs.Near.{Near, near-refl, near-sym, near-trans, near-add, congruent-trans, near-mul, near-mod}
+use Rattle.torus.proofs.Near.{Near, near-refl, near-sym, near-trans, near-add, congruent-trans, near-mul, near-mod, near-eq}
 
 pub magnitude-low : (w : ℕ) → w < 2 ^ 31 → magnitude w ≡ w
 unfolding magnitude
@@ -85,6 +85,11 @@ magnitude-mul a b ha hb = near-word (subst (λ x. Near (2 ^ 32) (magnitude a * m
 -- The distance is a metric on words.
 pub distance-self : (a : ℕ) → a ≤ 2 ^ 32 → distance a a ≡ 0
 distance-self a h = let l : distance a a ≤ 0 = near-distance h (near-refl a) in omega arith
+
+pub distance-none : (a b : ℕ) → a < 2 ^ 32 → b < 2 ^ 32 → distance a b ≡ 0 → a ≡ b
+distance-none a b ha hb e =
+    let near : Near (2 ^ 32) 0 a b = subst (λ m. Near (2 ^ 32) m a b) e (distance-near (omega arith)) in
+    sym (mod-eq-of-lt ha) ∙ near-eq near ∙ mod-eq-of-lt hb
 
 pub distance-sym : (a b : ℕ) → a ≤ 2 ^ 32 → b ≤ 2 ^ 32 → distance a b ≡ distance b a
 distance-sym a b ha hb =

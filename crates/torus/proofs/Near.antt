@@ -2,10 +2,12 @@
 -- that a reader must believe speak of `distance`.
 -- Assumes nothing.
 use mathlib.Core.Path.{_≡_, refl, ap, sym, _∙_, subst}
-use Prim.Native.Nat.{ℕ, zero, suc, _+_, _*_, _/_, _%_, _≤_, _<_}
+use Prim.Native.Nat.{ℕ, zero, suc, _+_, _-_, _*_, _/_, _%_, _^_, _≤_, _<_}
 use native.Mathlib.Nat.{mul-le-mul, le-refl, le-trans, le-of-eq, zero-add, add-comm, mul-zero, one-mul, mod-add-div', add-mul-mod-self-right}
 use native.Mathlib.Omega.{arith}
 use Rattle.torus.specs.Sum.{sum}
+use Rattle.torus.specs.Word.{sub}
+use Rattle.torus.proofs.Sums.{sum-const}
 
 -- x and y differ by at most A, modulo Q: x + u and y + v are congruent, and u + v is at most A.
 pub record Near (Q A x y : ℕ) : Type 0 where
@@ -83,9 +85,7 @@ module _ {Q : ℕ} where
   congruent-scale c h = near-weaken (le-of-eq (mul-zero c)) (near-scale c h)
 
   pub congruent-sum : (n : ℕ) (f g : ℕ → ℕ) → ((i : ℕ) → i < n → Near Q 0 (f i) (g i)) → Near Q 0 (sum n f) (sum n g)
-  unfolding sum
-  congruent-sum zero f g h = near-refl 0
-  congruent-sum (suc n) f g h = congruent-add (congruent-sum n f g (λ i l. h i (omega arith))) (h n (omega arith))
+  congruent-sum n f g h = near-weaken (le-of-eq (sum-const n 0 ∙ mul-zero n)) (near-sum n (λ i. 0) f g h)
 
   -- ---- remainders
 
@@ -109,6 +109,8 @@ module _ (z : ℕ) where
   pub near-neg : {A x y : ℕ} → Near (suc z) A x y → Near (suc z) A (z * x) (z * y)
   near-neg {A} h = near-weaken (le-of-eq (one-mul A)) (near-mul minus-one h)
 
-  -- To add z · y is to take y away.
-  pub near-minus : (x y w : ℕ) → Near (suc z) 0 (w + y) x → Near (suc z) 0 w (x + z * y)
-  near-minus x y w h = record { u = 0; v = 0; s = y + h .s; t = h .t; same = omega (arith, h .same, h .small); small = le-refl 0 }
+-- The difference of two words: to take b away is to add 2^32 - 1 times b.
+pub sub-near : (a b : ℕ) → b ≤ 2 ^ 32 → Near (2 ^ 32) 0 (sub a b) (a + 4294967295 * b)
+sub-near a b h =
+    congruent-trans (near-mod (a + (2 ^ 32 - b)))
+    (record { u = 0; v = 0; s = b; t = 1; same = omega arith; small = le-refl 0 })

@@ -1,8 +1,9 @@
 -- Laws of words in bytes: one word, parts of a slice that are lent and come back, and every byte.
 -- Assumes nothing.
-use mathlib.Core.Path.{_≡_, refl, ap, _∙_}
+use mathlib.Core.Path.{_≡_, refl, ap, sym, _∙_}
 use mathlib.Core.List.{List, [], _∷_, _++_}
 use Prim.Native.Nat.{ℕ, zero, suc, _+_, _*_, _/_, _%_, _^_, _≤_, _<_}
+use native.Mathlib.Nat.{add-zero}
 use native.Mathlib.Omega.{arith}
 use lib.Dec.{lit<}
 use lib.ListN.{length, getD, take, drop, set}
@@ -18,14 +19,14 @@ quad-eq : (i : ℕ) → quad i ≡ 4 * i
 quad-eq zero = refl
 quad-eq (suc i) = let h : quad i ≡ 4 * i = quad-eq i in omega arith
 
-quad-1 : (i : ℕ) → suc (quad i) ≡ 4 * i + 1
-quad-1 i = let h : quad i ≡ 4 * i = quad-eq i in omega arith
+-- k steps more.
+abbrev more : ℕ → ℕ → ℕ
+more zero n = n
+more (suc k) n = suc (more k n)
 
-quad-2 : (i : ℕ) → suc (suc (quad i)) ≡ 4 * i + 2
-quad-2 i = let h : quad i ≡ 4 * i = quad-eq i in omega arith
-
-quad-3 : (i : ℕ) → suc (suc (suc (quad i))) ≡ 4 * i + 3
-quad-3 i = let h : quad i ≡ 4 * i = quad-eq i in omega arith
+quad-more : (k i : ℕ) → more k (quad i) ≡ 4 * i + k
+quad-more zero i = quad-eq i ∙ sym (add-zero (4 * i))
+quad-more (suc k) i = let h : more k (quad i) ≡ 4 * i + k = quad-more k i in omega arith
 
 pub length-words : (s : List ℕ) → length (words s) ≡ length s / 4
 unfolding words
@@ -49,7 +50,7 @@ at-quad (a ∷ b ∷ c ∷ d ∷ s) (suc i) h = at-quad s i (omega arith)
 
 pub words-at : (s : List ℕ) (i : ℕ) → 4 * i + 4 ≤ length s
     → getD (words s) i 0 ≡ word (getD s (4 * i) 0) (getD s (4 * i + 1) 0) (getD s (4 * i + 2) 0) (getD s (4 * i + 3) 0)
-words-at s i h = rw (← quad-3, ← quad-2, ← quad-1, ← quad-eq) (at-quad s i h)
+words-at s i h = rw (← quad-more 3, ← quad-more 2, ← quad-more 1, ← quad-eq) (at-quad s i h)
 
 set-quad : (s : List ℕ) (i a b c d : ℕ) → 4 * i + 4 ≤ length s
     → words (set (set (set (set s (quad i) a) (suc (quad i)) b) (suc (suc (quad i))) c) (suc (suc (suc (quad i)))) d) ≡ set (words s) i (word a b c d)
@@ -64,7 +65,7 @@ set-quad (x ∷ y ∷ z ∷ w ∷ s) (suc i) a b c d h = ap (λ l. word x y z w 
 -- Four bytes that make up w, stored in place of word i.
 pub words-set : (s : List ℕ) (i a b c d w : ℕ) → 4 * i + 4 ≤ length s → word a b c d ≡ w
     → words (set (set (set (set s (4 * i) a) (4 * i + 1) b) (4 * i + 2) c) (4 * i + 3) d) ≡ set (words s) i w
-words-set s i a b c d w h e = rw (← quad-3, ← quad-2, ← quad-1, ← quad-eq) (set-quad s i a b c d h ∙ ap (λ v. set (words s) i v) e)
+words-set s i a b c d w h e = rw (← quad-more 3, ← quad-more 2, ← quad-more 1, ← quad-eq) (set-quad s i a b c d h ∙ ap (λ v. set (words s) i v) e)
 
 -- ---- parts
 

@@ -4,10 +4,9 @@ use borrow.Author.Tests.{ne-eqb}
 use native.Mathlib.Omega.{arith}
 use mathlib.Core.Path.{sym, _∙_}
 use lib.ListN.{length}
-use Rattle.torus.specs.Bytes.{words}
 use Rattle.gadget.proofs.Bounds.{count-le}
-use Rattle.digit_row.specs.Call.{digitPolynomial}
-use Rattle.digit_row.proofs.Accepted.{Fit, accepted, digits-small, digits-bytes, sum-bytes}
+use Rattle.gadget.proofs.Lists.{digit-polynomial-small}
+use Rattle.digit_row.proofs.Accepted.{Fit, accepted, digits-bytes, sum-bytes}
 use Rattle.digit_row.proofs.add_digit_row.Statement.{statement}
 use Rattle.digit_row.proofs.add_digit_row.Tie as tie
 
@@ -36,10 +35,9 @@ cast-write-digits-3 c = omega (arith, fit (c .before) .within, count-le _ _ (fit
 write-digits-requires : tie.Need-write-digits-requires
 write-digits-requires c κs =
     let f = fit (c .before) in
-    (f .lawful, f .some, f .within, f .digits-length, f .x-length)
+    (f .lawful, f .some, f .within, f .digits-length, omega (arith, f .x-length, f .row-length))
 
 add-product-requires : tie.Need-add-product-requires
-unfolding digitPolynomial
 add-product-requires c κs =
     let accepted = c .before .before .before .before .before .before in
     let f = fit accepted in
@@ -49,7 +47,7 @@ add-product-requires c κs =
       out-length = f .out-length;
       small-length = omega (arith, f .digits-length);
       row-length = f .row-length;
-      small-words = digits-small (s .n) (s .g) (s .l) (s .j) (words (s .x .now)) _ (f .lawful) (c .before .before .before .before .write-digits .ensures);
+      small-words = rw (c .before .before .before .before .write-digits .ensures) (digit-polynomial-small (s .n) (s .g) (s .l) (s .j) _ (f .lawful));
     }
 
 same-length : tie.Need-same-length
@@ -59,7 +57,6 @@ same-length-2 : tie.Need-same-length-2
 same-length-2 c = search needs
 
 returns-2 : tie.Need-returns-2
-unfolding digitPolynomial
 returns-2 c =
     let written = c .before .before .before .before .before .before .before in
     let accepted = written .before .before in

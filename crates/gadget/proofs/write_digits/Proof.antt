@@ -63,6 +63,7 @@ same-length : tie.Need-same-length Inv-loop μ-loop
 same-length c = search needs
 
 returns : tie.Need-returns Inv-loop μ-loop
+unfolding D.digitPolynomial
 returns c =
     let s = c .before .before .before .before .before .args in
     let e : c .before .loop .i ≡ s .n = omega arith in

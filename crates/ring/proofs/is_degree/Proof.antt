@@ -1,10 +1,13 @@
 -- `ring::is_degree` meets its contract. Assumes nothing.
-use borrow.Author.Tests.{eq-eqb, ne-eqb}
+use native.Mathlib.Omega.{arith}
+use borrow.Author.Tests.{eq-eqb}
+use Rattle.torus.proofs.Tests.{refuted}
+use Rattle.ring.proofs.Degrees.{test-degree}
 use Rattle.ring.proofs.is_degree.Statement.{statement}
 use Rattle.ring.proofs.is_degree.Tie as tie
 
 returns : tie.Need-returns
-returns c = simp (ne-eqb _ _ (c .if1 .taken))
+returns c = refuted _ (test-degree (c .before .args .n)) (λ ok. c .if1 .taken (omega arith))
 
 returns-2 : tie.Need-returns-2
 returns-2 c = simp (eq-eqb _ _ (c .if1 .left))

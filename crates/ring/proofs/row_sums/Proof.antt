@@ -5,13 +5,14 @@ use mathlib.Core.Path.{_≡_, refl, subst}
 use Prim.Native.Nat.{ℕ, _≤_, _-_, _%_, _^_}
 use lib.ListN.{length}
 use Rattle.torus.specs.Bytes.{words}
-use Rattle.ring.specs.Rows.{Starts, rowSum}
+use Rattle.ring.specs.Polynomial.{coefficients, Agree}
+use Rattle.ring.specs.Rows.{rowSum}
 use Rattle.ring.proofs.RowSums.{row-none, row-more}
 use Rattle.ring.proofs.row_sums.Statement.{statement}
 use Rattle.ring.proofs.row_sums.Tie as tie
 
 abbrev Inv-loop : tie.InvT-loop
-Inv-loop small table n acc₀ i₀ acc i = (i ≤ n) × (length acc ≡ 1024) × Starts n (λ k. rowSum n (words small) table i k % 2 ^ 32) acc
+Inv-loop small table n acc₀ i₀ acc i = (i ≤ n) × (length acc ≡ 1024) × Agree n (coefficients acc) (λ k. rowSum n (words small) table i k % 2 ^ 32)
 
 abbrev μ-loop : tie.MeasureT-loop
 μ-loop small table n acc₀ i₀ acc i = n - i
@@ -53,7 +54,7 @@ returns c =
     let s = c .before .before .before .before .args in
     let at = c .before .loop in
     let e : at .i ≡ s .n = omega arith in
-    (at .inv .1, subst (λ (m : ℕ). Starts (s .n) (λ k. rowSum (s .n) (words (s .small .now)) (s .table .now) m k % 2 ^ 32) (at .acc)) e (at .inv .2))
+    (at .inv .1, subst (λ (m : ℕ). Agree (s .n) (coefficients (at .acc)) (λ k. rowSum (s .n) (words (s .small .now)) (s .table .now) m k % 2 ^ 32)) e (at .inv .2))
 
 pub row-sums-spec : {M : Type 1} → statement M
 row-sums-spec =
