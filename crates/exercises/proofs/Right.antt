@@ -4,6 +4,8 @@ use mathlib.Core.List.{List, _∷_, map, List·Memᴰ, List·Memᴰ·head, List�
 use Rattle.torus.specs.Sum.{sum, tabulate}
 use Rattle.gadget.specs.Digits.{precision, rounded, digit, digits}
 use Rattle.ring.specs.Polynomial.{product}
+use Rattle.trlwe.specs.Classes.{decode}
+use Rattle.lwe.specs.Scalar.{extracted, extractedWord}
 use Rattle.exercises.specs.Table.{Case, cases}
 
 -- The test: over all rows, the words given are the words wanted.
@@ -16,7 +18,7 @@ each (d ∷ ds) t c (List·Memᴰ·head e) = cc
 each (d ∷ ds) t c (List·Memᴰ·tail m) = each ds (cc) c m
 
 computed : Test cases
-unfolding cases sum tabulate digits digit rounded precision product
+unfolding cases sum tabulate digits digit rounded precision product decode extracted extractedWord
 computed = refl
 
 pub exercises : (c : Case) → List·Memᴰ c cases → c .got ≡ c .want

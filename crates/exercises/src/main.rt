@@ -52,6 +52,26 @@ fn pair(letter: u8, s: &[u8; 8]) {
     end();
 }
 
+// Cases i to k: the class of a phase word, with M = 16.
+fn class(f: u32) -> u32 {
+    trlwe::decode(16, f)
+}
+
+// Case l: the scalar sample of coefficient p, with N = 2, mask (5, 7) and body (9, 11).
+fn extracted(p: u64) -> [u8; 12] {
+    let sample = [5u8, 0, 0, 0, 7, 0, 0, 0, 9, 0, 0, 0, 11, 0, 0, 0];
+    let mut scalar = [0u8; 12];
+    lwe::extract(2, p, &sample, &mut scalar);
+    scalar
+}
+
+// The three words of s.
+fn triple(s: &[u8; 12]) {
+    word(torus::word_at(s, 0));
+    word(torus::word_at(s, 1));
+    word(torus::word_at(s, 2));
+}
+
 fn main() {
     digits(b'a', 0);
     digits(b'b', 32767);
@@ -61,4 +81,18 @@ fn main() {
     digits(b'f', 4294934528);
     digits(b'g', 2147483648);
     pair(b'h', &product());
+    start(b'i');
+    word(class(134217727));
+    end();
+    start(b'j');
+    word(class(134217728));
+    end();
+    start(b'k');
+    word(class(4160749568));
+    word(class(4160749567));
+    end();
+    start(b'l');
+    triple(&extracted(0));
+    triple(&extracted(1));
+    end();
 }

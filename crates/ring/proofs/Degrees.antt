@@ -36,7 +36,7 @@ none-set (suc k) x h e =
     omega (arith, ones-step x)
 
 -- A number with one set bit is the power of two that its trailing zeros tell.
-one-set : (k x : ℕ) → x < 2 ^ k → ones x ≡ 1 → x ≡ 2 ^ trailingZeros k x
+pub one-set : (k x : ℕ) → x < 2 ^ k → ones x ≡ 1 → x ≡ 2 ^ trailingZeros k x
 unfolding trailingZeros
 one-set zero x h e =
     let z : x ≡ 0 = omega arith in

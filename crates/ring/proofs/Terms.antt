@@ -11,7 +11,7 @@ use Rattle.torus.specs.Word.{sub}
 use Rattle.torus.proofs.Sums.{sum-cong, sum-mul, sum-append}
 use Rattle.torus.proofs.Near.{congruent-trans, congruent-add, congruent-scale, near-mod, near-eq, sub-near}
 use Rattle.ring.specs.Polynomial.{Agree, inside, passed, product}
-use Rattle.ring.proofs.Poly.{Poly, _⊙_, psum, rot, rotn, mul, mul-mul}
+use Rattle.ring.proofs.Poly.{Poly, _⊙_, nil, psum, rot, rotn, mul, mul-mul, mul-linear}
 
 -- A sum of N terms, taken apart after term k.
 pub sum-split : (N k : ℕ) (f : ℕ → ℕ) → k < N → sum N f ≡ sum (suc k) f + sum (N - suc k) (λ i. f (suc k + i))
@@ -128,3 +128,14 @@ minus-word a b =
 pub product-mul : (N : ℕ) (y p : Poly) (k : ℕ) → k < N → product N y p k ≡ mul 4294967295 N y p k % 2 ^ 32
 unfolding product
 product-mul N y p k h = minus-word (inside y p k) (passed N y p k) ∙ ap (λ x. x % 2 ^ 32) (sym (mul-at 4294967295 N y p k h))
+
+-- It depends on the first N coefficients of its factors alone.
+pub product-agree : (N : ℕ) {y v p q : Poly} → Agree N y v → Agree N p q → Agree N (product N y p) (product N v q)
+product-agree N e f k h =
+    product-mul N _ _ k h ∙ ap (λ x. x % 2 ^ 32) (mul-agree 4294967295 N e f k h) ∙ sym (product-mul N _ _ k h)
+
+-- A product with 0 is 0.
+pub product-nil : (N : ℕ) (y : Poly) {p : Poly} → Agree N p nil → Agree N (product N y p) nil
+unfolding nil
+product-nil N y e k h =
+    product-agree N (λ i l. refl) e k h ∙ product-mul N y nil k h ∙ ap (λ q. q k % 2 ^ 32) (mul-linear 4294967295 N y .on-nil)

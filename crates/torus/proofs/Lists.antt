@@ -2,13 +2,13 @@
 -- Assumes nothing.
 use mathlib.Core.Path.{_≡_, refl, ap, ap₂, sym, _∙_}
 use mathlib.Core.Logic.{_⊎_, inl, inr}
-use mathlib.Core.List.{List, [], _∷_}
+use mathlib.Core.List.{List, [], _∷_, _++_}
 use Prim.Native.Nat.{ℕ, zero, suc, _+_, _≤_, _<_}
 use native.Mathlib.Nat.{le-refl, le-of-suc-le-suc, eq-or-lt-of-le}
 use native.Mathlib.Numerals.{add-one}
 use native.Mathlib.Omega.{arith}
-use lib.ListN.{length, getD, set, replicate, length-set}
-use lib.Seq.{ext-getD, getD-set-same, getD-set-other}
+use lib.ListN.{length, getD, take, set, replicate, length-set, drop-of-length-le}
+use lib.Seq.{ext-getD, length-take-le, take-all, getD-take, set-split, getD-set-same, getD-set-other}
 use Rattle.torus.specs.Sum.{tabulate}
 
 pub length-tabulate : (n : ℕ) (f : ℕ → ℕ) → length (tabulate n f) ≡ n
@@ -39,6 +39,21 @@ pub tabulate-const : (n a : ℕ) → tabulate n (λ i. a) ≡ replicate n a
 unfolding tabulate
 tabulate-const zero a = refl
 tabulate-const (suc n) a = ap (λ l. a ∷ l) (tabulate-const n a)
+
+-- ---- bounds
+
+pub tabulate-below : (m n : ℕ) (f : ℕ → ℕ) → 0 < m → ((i : ℕ) → f i < m) → (i : ℕ) → getD (tabulate n f) i 0 < m
+unfolding tabulate
+tabulate-below m zero f z h i = z
+tabulate-below m (suc n) f z h zero = h 0
+tabulate-below m (suc n) f z h (suc i) = tabulate-below m n (λ j. f (suc j)) z (λ j. h (suc j)) i
+
+pub append-below : (m : ℕ) (s t : List ℕ) → ((i : ℕ) → getD s i 0 < m) → ((i : ℕ) → getD t i 0 < m) → (i : ℕ) → getD (s ++ t) i 0 < m
+append-below m [] t hs ht i = ht i
+append-below m (x ∷ s) t hs ht zero = hs 0
+append-below m (x ∷ s) t hs ht (suc i) = append-below m s t (λ j. hs (suc j)) ht i
+
+-- ---- loops
 
 -- l with its first n elements replaced by f 0 to f (n - 1): what a loop that stores f i at i has made after n turns.
 unfoldable pub filled : ℕ → (ℕ → ℕ) → List ℕ → List ℕ
@@ -84,10 +99,25 @@ filled-before zero f l i b h = absurd (omega arith)
 filled-before (suc n) f l i b h =
     filled-case n f l i b (filled-before n f l i (omega arith)) (eq-or-lt-of-le (le-of-suc-le-suc h))
 
+-- The first n elements of the list are the table.
+pub filled-front : (n : ℕ) (f : ℕ → ℕ) (l : List ℕ) → n ≤ length l → take n (filled n f l) ≡ tabulate n f
+filled-front n f l b =
+    let size : length (take n (filled n f l)) ≡ n = length-take-le n (filled n f l) (rw (length-filled n f l) b) in
+    ext-getD 0 (take n (filled n f l)) (tabulate n f) (size ∙ sym (length-tabulate n f))
+    (λ i h.
+    let li : i < n = omega (arith, size) in
+    getD-take n (filled n f l) i 0 li ∙ filled-before n f l i b li ∙ sym (tabulate-at n f i li))
+
 -- All turns are done.
 pub filled-all : (n : ℕ) (f : ℕ → ℕ) (l : List ℕ) → length l ≡ n → filled n f l ≡ tabulate n f
 filled-all n f l e =
-    ext-getD 0 (filled n f l) (tabulate n f) (length-filled n f l ∙ e ∙ sym (length-tabulate n f))
-    (λ i h.
-    let b : i < n = omega (arith, length-filled n f l) in
-    filled-before n f l i (omega arith) b ∙ sym (tabulate-at n f i b))
+    let size : length (filled n f l) ≤ n = omega (arith, length-filled n f l) in
+    sym (take-all n (filled n f l) size) ∙ filled-front n f l (omega arith)
+
+-- All turns are done, and b is stored in the one place that is left.
+pub filled-last : (n : ℕ) (f : ℕ → ℕ) (l : List ℕ) (b : ℕ) → length l ≡ n + 1 → set (filled n f l) n b ≡ tabulate n f ++ b ∷ []
+filled-last n f l b e =
+    let size : length (filled n f l) ≡ n + 1 = length-filled n f l ∙ e in
+    let none : length (filled n f l) ≤ suc n = omega arith in
+    set-split (filled n f l) n b (omega arith)
+    ∙ ap₂ (λ s t. s ++ b ∷ t) (filled-front n f l (omega arith)) (drop-of-length-le (filled n f l) none)

@@ -1,6 +1,6 @@
 -- Laws of words in bytes: one word, parts of a slice that are lent and come back, and every byte.
 -- Assumes nothing.
-use mathlib.Core.Path.{_≡_, refl, ap, sym, _∙_}
+use mathlib.Core.Path.{_≡_, refl, ap, ap₂, sym, _∙_}
 use mathlib.Core.List.{List, [], _∷_, _++_}
 use Prim.Native.Nat.{ℕ, zero, suc, _+_, _*_, _/_, _%_, _^_, _≤_, _<_}
 use native.Mathlib.Nat.{add-zero}
@@ -155,3 +155,21 @@ bytes-words (suc k) (a ∷ b ∷ c ∷ d ∷ s) h f =
     let ec : word a b c d / 65536 % 256 ≡ c = rw qc (omega arith) in
     let ed : word a b c d / 16777216 % 256 ≡ d = rw qd (omega arith) in
     cc
+
+pub length-bytes : (ws : List ℕ) → length (bytes ws) ≡ 4 * length ws
+unfolding bytes
+length-bytes [] = refl
+length-bytes (w ∷ ws) = let rest : length (bytes ws) ≡ 4 * length ws = length-bytes ws in omega arith
+
+-- And a list of words by its bytes.
+pub words-bytes : (ws : List ℕ) → ((i : ℕ) → getD ws i 0 < 2 ^ 32) → words (bytes ws) ≡ ws
+unfolding words bytes
+words-bytes [] f = refl
+words-bytes (w ∷ ws) f =
+    let below : w < 2 ^ 32 = f 0 in
+    let rest : words (bytes ws) ≡ ws = words-bytes ws (λ i. f (suc i)) in
+    let b : w / 256 ≡ w / 256 % 256 + 256 * (w / 65536) = omega arith in
+    let c : w / 65536 ≡ w / 65536 % 256 + 256 * (w / 16777216) = omega arith in
+    let d : w / 16777216 % 256 ≡ w / 16777216 = omega arith in
+    let whole : word (w % 256) (w / 256 % 256) (w / 65536 % 256) (w / 16777216 % 256) ≡ w = omega arith in
+    ap₂ _∷_ whole rest

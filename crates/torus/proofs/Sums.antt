@@ -1,8 +1,9 @@
 -- Laws of finite sums.
 -- Assumes nothing.
 use mathlib.Core.Path.{_≡_, refl, ap, ap₂, sym, _∙_}
-use Prim.Native.Nat.{ℕ, zero, suc, _+_, _*_, _<_}
-use native.Mathlib.Nat.{add-zero, add-suc, add-assoc, zero-mul, suc-mul, add-mul}
+use Prim.Native.Nat.{ℕ, zero, suc, _+_, _*_, _%_, _^_, _<_}
+use native.Mathlib.Nat.{add-zero, add-suc, add-assoc, zero-mul, suc-mul, add-mul, mod-add-mod, add-mod-mod}
+use native.Mathlib.Numerals.{add-one}
 use native.Mathlib.Omega.{arith}
 use Rattle.torus.specs.Sum.{sum}
 
@@ -32,3 +33,22 @@ unfolding sum
 sum-append n zero f = ap (λ k. sum k f) (add-zero n) ∙ sym (add-zero (sum n f))
 sum-append n (suc m) f =
     ap (λ k. sum k f) (add-suc n m) ∙ ap (λ x. x + f (n + m)) (sum-append n m f) ∙ add-assoc (sum n f) _ _
+
+-- A sum of k·N terms is that of k sums of N terms each.
+pub sum-blocks : (k N : ℕ) (f : ℕ → ℕ) → sum (k * N) f ≡ sum k (λ c. sum N (λ j. f (c * N + j)))
+unfolding sum
+sum-blocks zero N f = ap (λ n. sum n f) (zero-mul N)
+sum-blocks (suc k) N f =
+    ap (λ n. sum n f) (suc-mul k N) ∙ sum-append (k * N) N f ∙ ap (λ x. x + sum N (λ j. f (k * N + j))) (sum-blocks k N f)
+
+-- What a loop that adds up words has before its first turn.
+pub summed-none : (f : ℕ → ℕ) → 0 ≡ sum 0 f % 2 ^ 32
+unfolding sum
+summed-none f = refl
+
+-- One turn more: v is added.
+pub summed-more : (n : ℕ) (f : ℕ → ℕ) (total v : ℕ) → total ≡ sum n f % 2 ^ 32 → v ≡ f n % 2 ^ 32
+    → (total + v) % 2 ^ 32 ≡ sum (n + 1) f % 2 ^ 32
+unfolding sum
+summed-more n f total v e h = rw (add-one n)
+    (ap₂ (λ x y. (x + y) % 2 ^ 32) e h ∙ mod-add-mod (sum n f) (2 ^ 32) _ ∙ add-mod-mod (sum n f) (f n) (2 ^ 32))

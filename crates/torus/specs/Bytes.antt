@@ -1,7 +1,8 @@
 -- Words in bytes: "four bytes a word, lowest byte first; the lent slices of words are such byte slices throughout."
 -- Assumes nothing.
 use mathlib.Core.List.{List, [], _∷_}
-use Prim.Native.Nat.{ℕ, _+_, _*_, _/_, _%_}
+use Prim.Native.Nat.{ℕ, _+_, _*_, _/_, _%_, _<_}
+use lib.ListN.{getD}
 
 -- The word of four bytes, lowest first.
 abbrev pub word : ℕ → ℕ → ℕ → ℕ → ℕ
@@ -19,3 +20,7 @@ words (a ∷ b ∷ c ∷ d ∷ s) = word a b c d ∷ words s
 unfoldable pub bytes : List ℕ → List ℕ
 bytes [] = []
 bytes (w ∷ ws) = w % 256 ∷ w / 256 % 256 ∷ w / 65536 % 256 ∷ w / 16777216 % 256 ∷ bytes ws
+
+-- A list of bytes, as every lent slice is.
+abbrev pub AreBytes : List ℕ → Type 0
+AreBytes s = (i : ℕ) → getD s i 0 < 256

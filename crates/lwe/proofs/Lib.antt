@@ -1,0 +1,3 @@
+pub mod Extraction
+pub mod Accepted
+pub mod ExtractedClass

@@ -1,0 +1,176 @@
+// The calls that C programs make. Each returns its number; its two sisters take the same arguments, write nothing, and return the
+// bound and the gates. include/cikenuma.h documents them.
+ghost use mathlib.Core.Path.{_≡_};
+ghost use Rattle.answers.specs.Answers.{number, bound, gates};
+ghost use Rattle.trlwe.specs.Calls as Packed;
+ghost use Rattle.lwe.specs.Calls as Scalars;
+
+#[no_mangle]
+pub extern "C" fn cikenuma_encrypt_classes(
+    n: u64,
+    m: u64,
+    s: u64,
+    key: &[u8],
+    mask: &[u8],
+    errors: &[u8],
+    classes: &[u8],
+    sample: &mut [u8],
+) -> u32
+    ensures { λ r. ⌜ (r ≡ number (Packed.encryptClasses n m s
+        (now (key .entry)) (now (mask .entry)) (now (errors .entry)) (now (classes .entry)) (now (sample .entry))))
+        × (now (sample .exit) ≡ Packed.encryptClassesSample n m s
+        (now (key .entry)) (now (mask .entry)) (now (errors .entry)) (now (classes .entry)) (now (sample .entry))) ⌝ }
+{
+    trlwe::encrypt_classes(n, m, s, key, mask, errors, classes, sample)
+}
+
+#[no_mangle]
+pub extern "C" fn cikenuma_encrypt_classes_bound(
+    n: u64,
+    m: u64,
+    s: u64,
+    key: &[u8],
+    mask: &[u8],
+    errors: &[u8],
+    classes: &[u8],
+    sample: &[u8],
+) -> u64
+    ensures { λ r. ⌜ r ≡ bound (Packed.encryptClasses n m s
+        (now (key .entry)) (now (mask .entry)) (now (errors .entry)) (now (classes .entry)) (now (sample .entry))) ⌝ }
+{
+    trlwe::encrypt_classes_answer(n, m, s, key, mask, errors, classes, sample).bound()
+}
+
+#[no_mangle]
+pub extern "C" fn cikenuma_encrypt_classes_gates(
+    n: u64,
+    m: u64,
+    s: u64,
+    key: &[u8],
+    mask: &[u8],
+    errors: &[u8],
+    classes: &[u8],
+    sample: &[u8],
+) -> u64
+    ensures { λ r. ⌜ r ≡ gates (Packed.encryptClasses n m s
+        (now (key .entry)) (now (mask .entry)) (now (errors .entry)) (now (classes .entry)) (now (sample .entry))) ⌝ }
+{
+    trlwe::encrypt_classes_answer(n, m, s, key, mask, errors, classes, sample).gates()
+}
+
+#[no_mangle]
+pub extern "C" fn cikenuma_decrypt_classes(
+    n: u64,
+    m: u64,
+    s: u64,
+    key: &[u8],
+    sample: &[u8],
+    classes: &mut [u8],
+) -> u32
+    ensures { λ r. ⌜ (r ≡ number (Packed.decryptClasses n m s
+        (now (key .entry)) (now (sample .entry)) (now (classes .entry))))
+        × (now (classes .exit) ≡ Packed.decryptClassesClasses n m s
+        (now (key .entry)) (now (sample .entry)) (now (classes .entry))) ⌝ }
+{
+    trlwe::decrypt_classes(n, m, s, key, sample, classes)
+}
+
+#[no_mangle]
+pub extern "C" fn cikenuma_decrypt_classes_bound(
+    n: u64,
+    m: u64,
+    s: u64,
+    key: &[u8],
+    sample: &[u8],
+    classes: &[u8],
+) -> u64
+    ensures { λ r. ⌜ r ≡ bound (Packed.decryptClasses n m s
+        (now (key .entry)) (now (sample .entry)) (now (classes .entry))) ⌝ }
+{
+    trlwe::decrypt_classes_answer(n, m, s, key, sample, classes).bound()
+}
+
+#[no_mangle]
+pub extern "C" fn cikenuma_decrypt_classes_gates(
+    n: u64,
+    m: u64,
+    s: u64,
+    key: &[u8],
+    sample: &[u8],
+    classes: &[u8],
+) -> u64
+    ensures { λ r. ⌜ r ≡ gates (Packed.decryptClasses n m s
+        (now (key .entry)) (now (sample .entry)) (now (classes .entry))) ⌝ }
+{
+    trlwe::decrypt_classes_answer(n, m, s, key, sample, classes).gates()
+}
+
+#[no_mangle]
+pub extern "C" fn cikenuma_decrypt_scalar(
+    n: u64,
+    m: u64,
+    key: &[u8],
+    scalar: &[u8],
+    class: &mut [u8],
+) -> u32
+    ensures { λ r. ⌜ (r ≡ number (Scalars.decryptScalar n m
+        (now (key .entry)) (now (scalar .entry)) (now (class .entry))))
+        × (now (class .exit) ≡ Scalars.decryptScalarClass n m
+        (now (key .entry)) (now (scalar .entry)) (now (class .entry))) ⌝ }
+{
+    lwe::decrypt_scalar(n, m, key, scalar, class)
+}
+
+#[no_mangle]
+pub extern "C" fn cikenuma_decrypt_scalar_bound(
+    n: u64,
+    m: u64,
+    key: &[u8],
+    scalar: &[u8],
+    class: &[u8],
+) -> u64
+    ensures { λ r. ⌜ r ≡ bound (Scalars.decryptScalar n m
+        (now (key .entry)) (now (scalar .entry)) (now (class .entry))) ⌝ }
+{
+    lwe::decrypt_scalar_answer(n, m, key, scalar, class).bound()
+}
+
+#[no_mangle]
+pub extern "C" fn cikenuma_decrypt_scalar_gates(
+    n: u64,
+    m: u64,
+    key: &[u8],
+    scalar: &[u8],
+    class: &[u8],
+) -> u64
+    ensures { λ r. ⌜ r ≡ gates (Scalars.decryptScalar n m
+        (now (key .entry)) (now (scalar .entry)) (now (class .entry))) ⌝ }
+{
+    lwe::decrypt_scalar_answer(n, m, key, scalar, class).gates()
+}
+
+#[no_mangle]
+pub extern "C" fn cikenuma_extract(n: u64, p: u64, sample: &[u8], scalar: &mut [u8]) -> u32
+    ensures { λ r. ⌜ (r ≡ number (Scalars.extract n p
+        (now (sample .entry)) (now (scalar .entry))))
+        × (now (scalar .exit) ≡ Scalars.extractScalar n p
+        (now (sample .entry)) (now (scalar .entry))) ⌝ }
+{
+    lwe::extract(n, p, sample, scalar)
+}
+
+#[no_mangle]
+pub extern "C" fn cikenuma_extract_bound(n: u64, p: u64, sample: &[u8], scalar: &[u8]) -> u64
+    ensures { λ r. ⌜ r ≡ bound (Scalars.extract n p
+        (now (sample .entry)) (now (scalar .entry))) ⌝ }
+{
+    lwe::extract_answer(n, p, sample, scalar).bound()
+}
+
+#[no_mangle]
+pub extern "C" fn cikenuma_extract_gates(n: u64, p: u64, sample: &[u8], scalar: &[u8]) -> u64
+    ensures { λ r. ⌜ r ≡ gates (Scalars.extract n p
+        (now (sample .entry)) (now (scalar .entry))) ⌝ }
+{
+    lwe::extract_answer(n, p, sample, scalar).gates()
+}

@@ -1,0 +1,6 @@
+pub mod Decoding
+pub mod Masks
+pub mod Parts
+pub mod Accepted
+pub mod Phases
+pub mod RoundTrip

@@ -1,0 +1,202 @@
+/*
+ * Cikenuma: sealed rate lookups.
+ *
+ * A broker encrypts what an applicant answered, an evaluator without the key works it through a
+ * rate table, and the broker decrypts a rate class. The scheme is levelled TFHE over 32-bit torus
+ * words. This header declares the broker's side: encrypting and decrypting classes, and extracting
+ * one coefficient of a packed sample. It can be included from C and from C++.
+ *
+ * Masks and errors must come from the caller's own source of randomness: the library draws none.
+ * It makes no claim about secrecy, and chooses no parameters.
+ *
+ *
+ * TERMS
+ *
+ * Word            an integer from 0 to 2^32 - 1; sums and products are taken modulo 2^32. Its centred
+ *                 reading is w below 2^31, else w - 2^32; its magnitude is the absolute value of that,
+ *                 up to 2^31. No word is special.
+ * Polynomial      N words, constant coefficient first. Products are taken modulo X^N + 1: a term that
+ *                 passes the end returns with its sign changed.
+ * Key             a polynomial K whose words are 0 or 1.
+ * Packed sample   a TRLWE sample: a mask polynomial a, then a body polynomial b; 2*N words. Its phase
+ *                 is the polynomial b - a*K.
+ * Scalar sample   an LWE sample: N mask words, then one body word; N + 1 words. Its phase is the body
+ *                 word less the sum of mask word j times key word j.
+ * Class           one of M, numbered from 0. Class c is encoded as the word c*(2^32/M). A phase word f
+ *                 decodes to floor(((f + 2^31/M) mod 2^32) / (2^32/M)), so ties go up.
+ * Message         of a packed sample: the encoded classes in coefficients 0 to s - 1, and 0 in the
+ *                 others.
+ * Noise bound     no coefficient of the phase is farther than this from the message. While it is
+ *                 below 2^31/M every class decodes to itself.
+ *
+ *
+ * CONVENTIONS
+ *
+ * Numbers are passed by value, 64 bits wide. They are judged at their full width and never cut.
+ *
+ * A slice is passed as a pointer and a length in bytes. It holds words of four bytes each, lowest
+ * byte first, and needs no alignment. Below, lengths are given in words; the length passed must be
+ * exactly four times that, in bytes. A shorter or longer one is refused, also for a slice that is
+ * to be written.
+ *
+ * A pointer is never NULL, also where its length is 0. A slice that a call writes overlaps no other
+ * slice lent to that call. The library tests neither, and takes both as given.
+ *
+ * Each call returns one of the numbers below. It checks what applies to it in rising number, so with
+ * several faults the lowest number is returned. A refusal (any number but 0) writes nothing.
+ *
+ * Each call has two sisters, NAME_bound and NAME_gates. They take the same arguments, write nothing,
+ * and return the noise bound and the number of gates that the call reports: gates are 0 in every
+ * refusal, and the bound is 0 in every refusal but 9.
+ *
+ *
+ * RETURNED NUMBERS
+ *
+ *   number   bound        when
+ *   ------   ----------   ----------------------------------------------------------------
+ *     0      as defined   accepted
+ *     1      0            N is not a power of two from 1 to 1,024
+ *     2      0            g is not 1 to 16, L is 0, or g*L is above 32
+ *     3      0            M is not a power of two from 2 to 65,536
+ *     4      0            s is 0 or above N; d is above 10; position p is not below N
+ *     5      0            the length of a slice differs from the exact one
+ *     6      0            a declared amplitude is above 2^31
+ *     7      0            a class is not below M, or a selector bit is above 1
+ *     8      0            a key word is above 1
+ *     9      the bound    the bound is 2^31/M or more
+ *
+ * g, L, d, amplitudes and selector bits are arguments of selectors and lookups. No call in this header
+ * takes them, so none returns 2 or 6.
+ */
+#ifndef CIKENUMA_H
+#define CIKENUMA_H
+
+#include <stddef.h>
+#include <stdint.h>
+
+#ifdef __cplusplus
+extern "C" {
+#endif
+
+/*
+ * Encrypts s classes as a packed sample.
+ *
+ *   N         degree
+ *   M         number of classes
+ *   s         how many classes the sample carries, 1 to N
+ *   key       N words, each 0 or 1
+ *   mask      N words
+ *   errors    N words, the noise of every coefficient, used or not, by its centred reading
+ *   classes   s words, each below M
+ *   sample    2*N words, written: the mask, then the body b = mask*key + errors + message
+ *
+ * Refusals, in order: 1, 3, 4, 5, 7, 8, 9.
+ * Bound: the greatest magnitude of all N errors. From 2^31/M on the call refuses with 9, and the
+ * bound is still reported.
+ * Gates: 0.
+ */
+uint32_t cikenuma_encrypt_classes(uint64_t N, uint64_t M, uint64_t s,
+                                  const uint8_t *key, size_t key_length,
+                                  const uint8_t *mask, size_t mask_length,
+                                  const uint8_t *errors, size_t errors_length,
+                                  const uint8_t *classes, size_t classes_length,
+                                  uint8_t *sample, size_t sample_length);
+
+uint64_t cikenuma_encrypt_classes_bound(uint64_t N, uint64_t M, uint64_t s,
+                                        const uint8_t *key, size_t key_length,
+                                        const uint8_t *mask, size_t mask_length,
+                                        const uint8_t *errors, size_t errors_length,
+                                        const uint8_t *classes, size_t classes_length,
+                                        const uint8_t *sample, size_t sample_length);
+
+uint64_t cikenuma_encrypt_classes_gates(uint64_t N, uint64_t M, uint64_t s,
+                                        const uint8_t *key, size_t key_length,
+                                        const uint8_t *mask, size_t mask_length,
+                                        const uint8_t *errors, size_t errors_length,
+                                        const uint8_t *classes, size_t classes_length,
+                                        const uint8_t *sample, size_t sample_length);
+
+/*
+ * Decrypts the s classes of a packed sample.
+ *
+ *   N         degree
+ *   M         number of classes
+ *   s         how many classes the sample carries, 1 to N
+ *   key       N words, each 0 or 1
+ *   sample    2*N words
+ *   classes   s words, written: what coefficients 0 to s - 1 of the phase decode to
+ *
+ * Refusals, in order: 1, 3, 4, 5, 8.
+ * Bound: 0. Gates: 0.
+ */
+uint32_t cikenuma_decrypt_classes(uint64_t N, uint64_t M, uint64_t s,
+                                  const uint8_t *key, size_t key_length,
+                                  const uint8_t *sample, size_t sample_length,
+                                  uint8_t *classes, size_t classes_length);
+
+uint64_t cikenuma_decrypt_classes_bound(uint64_t N, uint64_t M, uint64_t s,
+                                        const uint8_t *key, size_t key_length,
+                                        const uint8_t *sample, size_t sample_length,
+                                        const uint8_t *classes, size_t classes_length);
+
+uint64_t cikenuma_decrypt_classes_gates(uint64_t N, uint64_t M, uint64_t s,
+                                        const uint8_t *key, size_t key_length,
+                                        const uint8_t *sample, size_t sample_length,
+                                        const uint8_t *classes, size_t classes_length);
+
+/*
+ * Decrypts the class of a scalar sample.
+ *
+ *   N            degree
+ *   M            number of classes
+ *   key          N words, each 0 or 1
+ *   scalar       N + 1 words
+ *   class_word   1 word, written: what the phase decodes to
+ *
+ * Refusals, in order: 1, 3, 5, 8.
+ * Bound: 0. Gates: 0.
+ */
+uint32_t cikenuma_decrypt_scalar(uint64_t N, uint64_t M,
+                                 const uint8_t *key, size_t key_length,
+                                 const uint8_t *scalar, size_t scalar_length,
+                                 uint8_t *class_word, size_t class_word_length);
+
+uint64_t cikenuma_decrypt_scalar_bound(uint64_t N, uint64_t M,
+                                       const uint8_t *key, size_t key_length,
+                                       const uint8_t *scalar, size_t scalar_length,
+                                       const uint8_t *class_word, size_t class_word_length);
+
+uint64_t cikenuma_decrypt_scalar_gates(uint64_t N, uint64_t M,
+                                       const uint8_t *key, size_t key_length,
+                                       const uint8_t *scalar, size_t scalar_length,
+                                       const uint8_t *class_word, size_t class_word_length);
+
+/*
+ * Extracts coefficient p of a packed sample as a scalar sample. Its phase is coefficient p of the
+ * packed sample's phase, under the same key.
+ *
+ *   N        degree
+ *   p        position, 0 to N - 1
+ *   sample   2*N words: mask a, body b
+ *   scalar   N + 1 words, written: mask word j is a_(p-j) for j up to p, else -a_(N+p-j); then b_p
+ *
+ * Refusals, in order: 1, 4, 5.
+ * Bound: 0. Gates: 0.
+ */
+uint32_t cikenuma_extract(uint64_t N, uint64_t p,
+                          const uint8_t *sample, size_t sample_length,
+                          uint8_t *scalar, size_t scalar_length);
+
+uint64_t cikenuma_extract_bound(uint64_t N, uint64_t p,
+                                const uint8_t *sample, size_t sample_length,
+                                const uint8_t *scalar, size_t scalar_length);
+
+uint64_t cikenuma_extract_gates(uint64_t N, uint64_t p,
+                                const uint8_t *sample, size_t sample_length,
+                                const uint8_t *scalar, size_t scalar_length);
+
+#ifdef __cplusplus
+}
+#endif
+
+#endif

@@ -1,0 +1,75 @@
+/* Lengths: every slice of every call, the written one too, must have its exact length to the byte. */
+#include "calls.h"
+
+#include <inttypes.h>
+
+/* Arguments in which only the length of slice k is other than it was. */
+static void test_length(const struct call *call, uint64_t N, size_t k, size_t length)
+{
+    struct arguments a = {0};
+    lawful(&a, call, (struct numbers){N, 16, (N + 1) / 2, N / 2}, N);
+    at("%s, N = %" PRIu64 ": slice %zu of %zu bytes has %zu", call->name, N, k, a.slice[k].length, length);
+    if (length != a.slice[k].length) {
+        set_length(&a.slice[k], length);
+        refuse(&a, 5);
+    }
+    free_arguments(&a);
+}
+
+static void test_slice(const struct call *call, uint64_t N, size_t k)
+{
+    struct arguments a = {0};
+    lawful(&a, call, (struct numbers){N, 16, (N + 1) / 2, N / 2}, N);
+    size_t exact = a.slice[k].length;
+    /* 0, the number of words, half and twice; then up to two words short and long, to the byte. */
+    const size_t lengths[] = {0, exact / 4, exact / 2, 2 * exact, 4 * exact};
+    for (size_t i = 0; i < sizeof lengths / sizeof lengths[0]; i++)
+        test_length(call, N, k, lengths[i]);
+    for (size_t by = 1; by <= 8; by++) {
+        test_length(call, N, k, exact + by);
+        if (by <= exact)
+            test_length(call, N, k, exact - by);
+    }
+    free_arguments(&a);
+}
+
+/* A word moved from one slice to another: the sum of the lengths is right. */
+static void test_moved_word(const struct call *call, size_t from, size_t to)
+{
+    struct arguments a = {0};
+    at("%s: a word moved from slice %zu to slice %zu", call->name, from, to);
+    lawful(&a, call, (struct numbers){8, 16, 5, 3}, 3);
+    set_length(&a.slice[from], a.slice[from].length - 4);
+    set_length(&a.slice[to], a.slice[to].length + 4);
+    refuse(&a, 5);
+    free_arguments(&a);
+}
+
+/* The length's lowest 32 bits are right, and it is far too long: it is judged at its full width. */
+static void test_long_slice(const struct call *call, size_t k)
+{
+    struct arguments a = {0};
+    at("%s: slice %zu is 4 GiB too long", call->name, k);
+    lawful(&a, call, (struct numbers){8, 16, 5, 3}, 3);
+    a.slice[k].beyond = (size_t)1 << 32;
+    refuse(&a, 5);
+    free_arguments(&a);
+}
+
+static void test_call(const struct call *call)
+{
+    for (size_t k = 0; k < call->slices; k++) {
+        for (uint64_t N = 1; N <= 1024; N *= 2)
+            test_slice(call, N, k);
+        for (size_t to = 0; to < call->slices; to++)
+            if (to != k)
+                test_moved_word(call, k, to);
+        test_long_slice(call, k);
+    }
+}
+
+void test_lengths(void)
+{
+    for (size_t c = 0; all_calls[c]; c++)
+        test_call(all_calls[c]);
+}

@@ -1,0 +1,24 @@
+/* Every call and every sister, accepted and with each of its refusals. */
+#include "calls.h"
+
+int can_refuse(const struct call *call, uint32_t number)
+{
+    for (size_t i = 0; call->refusals[i]; i++)
+        if (call->refusals[i] == number)
+            return 1;
+    return 0;
+}
+
+int main(void)
+{
+    start("calls");
+    test_examples();
+    test_accepted();
+    test_refusals();
+    test_numbers();
+    test_lengths();
+    test_words();
+    test_errors();
+    test_classes();
+    return finish();
+}

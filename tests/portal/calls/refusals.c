@@ -1,0 +1,144 @@
+/*
+ * Every refusal of every call alone, and any two faults at once: the lower number is returned. A fault is
+ * put into lawful arguments whose slices fit the numbers, so nothing else is wrong with them.
+ */
+#include "calls.h"
+
+#include <inttypes.h>
+
+enum { FIRST, LAST };
+
+/* A fault by its refusal. `what` is a number's letter, or the kind of a slice whose word is bad. */
+struct fault {
+    uint32_t refusal;
+    int what;
+    uint64_t value;
+    int place; /* of a bad word: the first or the last one */
+};
+
+/* In the order in which they are put in: numbers, then lengths that fit them, then words. */
+static const struct fault faults[] = {
+    {1, 'N', 0, 0}, {1, 'N', 3, 0}, {1, 'N', 6, 0}, {1, 'N', 2048, 0},
+    {3, 'M', 0, 0}, {3, 'M', 1, 0}, {3, 'M', 24, 0}, {3, 'M', 131072, 0},
+    {4, 's', 0, 0}, {4, 's', 9, 0}, {4, 's', 3000, 0}, {4, 'p', 8, 0}, {4, 'p', 9, 0}, {4, 'p', 3000, 0},
+    /* A length: `what` is the slice, `value` its bytes too many (in 64 bits, so also too few). */
+    {5, 0, 1, 0}, {5, 0, (uint64_t)-1, 0}, {5, 1, 4, 0}, {5, 1, (uint64_t)-1, 0}, {5, 2, 1, 0}, {5, 2, (uint64_t)-4, 0},
+    {5, 3, 4, 0}, {5, 3, (uint64_t)-4, 0}, {5, 4, 1, 0}, {5, 4, (uint64_t)-4, 0},
+    {7, CLASSES, 16, FIRST}, {7, CLASSES, 17, LAST}, {7, CLASSES, UINT32_MAX, LAST},
+    {8, KEY, 2, FIRST}, {8, KEY, 2, LAST}, {8, KEY, UINT32_MAX, LAST},
+    {9, ERRORS, 134217728, FIRST}, {9, ERRORS, UINT32_C(4160749568), LAST}, {9, ERRORS, UINT32_C(2147483648), LAST},
+};
+
+enum { FAULTS = sizeof faults / sizeof faults[0] };
+
+/* N = 8, M = 16: the error limit is 134217728. */
+static void start_lawful(struct arguments *a, const struct call *call)
+{
+    lawful(a, call, (struct numbers){8, 16, 5, 3}, 7);
+}
+
+static int put_number_fault(struct arguments *a, const struct fault *f)
+{
+    uint64_t *number = number_of(a, (char)f->what);
+    if (!number)
+        return 0;
+    *number = f->value;
+    fit(a);
+    return 1;
+}
+
+static int put_length_fault(struct arguments *a, const struct fault *f)
+{
+    size_t k = (size_t)f->what;
+    if (k >= a->call->slices)
+        return 0;
+    /* An empty slice can't be shortened; it is made longer instead. */
+    size_t length = a->slice[k].length;
+    set_length(&a->slice[k], length ? length + (size_t)f->value : 4);
+    return 1;
+}
+
+static int put_word_fault(struct arguments *a, const struct fault *f)
+{
+    struct bytes *b = can_refuse(a->call, f->refusal) ? slice_of(a, (enum kind)f->what) : NULL;
+    if (!b)
+        return 0;
+    /* No place for a bad word: another fault has left no words. */
+    if (words_in(b))
+        put_word(b, f->place == FIRST ? 0 : words_in(b) - 1, (uint32_t)f->value);
+    return 1;
+}
+
+/* Whether the call can have this fault at all. */
+static int put_fault(struct arguments *a, const struct fault *f)
+{
+    if (f->refusal < 5)
+        return put_number_fault(a, f);
+    return f->refusal == 5 ? put_length_fault(a, f) : put_word_fault(a, f);
+}
+
+static uint64_t bound_of(const struct fault *f)
+{
+    return f->refusal == 9 ? magnitude((uint32_t)f->value) : 0;
+}
+
+static void test_alone(const struct call *call)
+{
+    int reached[MAX_REFUSALS] = {0};
+    struct arguments a = {0};
+    for (size_t i = 0; i < FAULTS; i++) {
+        const struct fault *f = &faults[i];
+        at("fault %zu alone, refusal %" PRIu32, i, f->refusal);
+        start_lawful(&a, call);
+        if (!put_fault(&a, f))
+            continue;
+        make_call(&a, (struct answer){f->refusal, bound_of(f), 0});
+        for (size_t r = 0; call->refusals[r]; r++)
+            reached[r] |= call->refusals[r] == f->refusal;
+        check_call(&a, can_refuse(call, f->refusal), "it isn't listed that the call refuses so");
+    }
+    at("%s: its refusals", call->name);
+    for (size_t r = 0; call->refusals[r]; r++)
+        check(reached[r], "none of the faults reaches refusal %" PRIu32, call->refusals[r]);
+    free_arguments(&a);
+}
+
+static void test_pairs(const struct call *call)
+{
+    struct arguments a = {0};
+    for (size_t i = 0; i < FAULTS; i++)
+        for (size_t j = i + 1; j < FAULTS; j++) {
+            if (faults[i].refusal == faults[j].refusal)
+                continue;
+            at("faults %zu and %zu at once, refusals %" PRIu32 " and %" PRIu32, i, j, faults[i].refusal,
+               faults[j].refusal);
+            start_lawful(&a, call);
+            if (put_fault(&a, &faults[i]) && put_fault(&a, &faults[j]))
+                refuse(&a, faults[i].refusal);
+        }
+    free_arguments(&a);
+}
+
+/* Every fault from one refusal up, one of each, and those below left out. */
+static void test_all_from(const struct call *call, size_t first)
+{
+    struct arguments a = {0};
+    uint32_t before = 0;
+    at("every fault from refusal %" PRIu32 " up", call->refusals[first]);
+    start_lawful(&a, call);
+    for (size_t i = 0; i < FAULTS; i++)
+        if (faults[i].refusal >= call->refusals[first] && faults[i].refusal != before && put_fault(&a, &faults[i]))
+            before = faults[i].refusal;
+    make_call(&a, (struct answer){call->refusals[first], call->refusals[first] == 9 ? 134217728 : 0, 0});
+    free_arguments(&a);
+}
+
+void test_refusals(void)
+{
+    for (size_t c = 0; all_calls[c]; c++) {
+        test_alone(all_calls[c]);
+        test_pairs(all_calls[c]);
+        for (size_t first = 0; all_calls[c]->refusals[first]; first++)
+            test_all_from(all_calls[c], first);
+    }
+}

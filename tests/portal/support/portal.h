@@ -1,0 +1,152 @@
+/*
+ * What the test programs of the C interface share.
+ *
+ *   table.c     the calls behind one shape of arguments
+ *   bytes.c     slices to be lent, as bytes and as words
+ *   guarded.c   the one place where a call is made: every slice between guards, everything checked
+ *   report.c    checks, and what is printed of those that fail
+ *   lawful.c    lawful arguments for a call
+ *   plain.c     the formulas of the scheme, and what an accepted call must report and write
+ */
+#ifndef PORTAL_H
+#define PORTAL_H
+
+#include <stddef.h>
+#include <stdint.h>
+
+enum { MAX_NUMBERS = 8, MAX_SLICES = 8, MAX_REFUSALS = 16 };
+
+/* ---- table.c ---- */
+
+/* What a slice holds; its exact length follows from it and the numbers. */
+enum kind { KEY, MASK, ERRORS, CLASSES, SAMPLE, SCALAR, CLASS_WORD };
+
+/* A slice as a call gets it. */
+struct lent {
+    uint8_t *at;
+    size_t length;
+};
+
+/* A call and its sisters. The last `written` of its slices are written, the others only read. */
+struct call {
+    const char *name;
+    const char *numbers; /* a letter each, in order */
+    enum kind kind[MAX_SLICES];
+    size_t slices, written;
+    uint32_t refusals[MAX_REFUSALS]; /* every number it can refuse with, rising, then 0 */
+    uint32_t (*answer)(const uint64_t *number, const struct lent *slice);
+    uint64_t (*bound)(const uint64_t *number, const struct lent *slice);
+    uint64_t (*gates)(const uint64_t *number, const struct lent *slice);
+};
+
+extern const struct call encrypt_classes, decrypt_classes, decrypt_scalar, extract;
+
+/* Every call, then NULL. */
+extern const struct call *const all_calls[];
+
+/* ---- bytes.c ---- */
+
+/* A slice to be lent: its bytes, and how many more are lent after them whose content doesn't matter. */
+struct bytes {
+    uint8_t *at;
+    size_t length;
+    size_t beyond;
+};
+
+/* Keeps the bytes that fit; those added are 0. */
+void set_length(struct bytes *b, size_t length);
+void set_words(struct bytes *b, const uint32_t *words, size_t count);
+void set_bytes(struct bytes *b, const uint8_t *at, size_t length);
+
+/* How many whole words stand in it, and each of them. */
+size_t words_in(const struct bytes *b);
+uint32_t word_at(const struct bytes *b, size_t i);
+void put_word(struct bytes *b, size_t i, uint32_t word);
+
+/* ---- guarded.c ---- */
+
+/* A call with its numbers and slices. After the call the written slices hold what it left in them. */
+struct arguments {
+    const struct call *call;
+    uint64_t number[MAX_NUMBERS];
+    struct bytes slice[MAX_SLICES];
+};
+
+struct answer {
+    uint32_t number;
+    uint64_t bound, gates;
+};
+
+/*
+ * Makes the call and both sisters. Checks the three results, the guards round every slice, that the
+ * sisters changed no byte, that the call changed no byte of what it only reads, and, where a refusal
+ * is wanted, no byte at all.
+ */
+void make_call(struct arguments *a, struct answer want);
+
+/* A refusal with bound 0. */
+void refuse(struct arguments *a, uint32_t number);
+
+void free_arguments(struct arguments *a);
+
+/* ---- report.c ---- */
+
+void start(const char *program);
+
+/* Says what is being tested; printed with every check that fails. */
+void at(const char *format, ...) __attribute__((format(printf, 1, 2)));
+
+/* Counts a check. If it doesn't hold, prints what is being tested and the message. */
+void check(int holds, const char *format, ...) __attribute__((format(printf, 2, 3)));
+
+/* The same, with the call's arguments printed too. */
+void check_call(const struct arguments *a, int holds, const char *format, ...)
+    __attribute__((format(printf, 3, 4)));
+
+/* Prints the count of checks; what main returns. */
+int finish(void);
+
+/* Ends the program if something outside the library is wrong, such as a full memory. */
+void need(int holds, const char *what);
+
+/* ---- lawful.c ---- */
+
+/* splitmix64: seeded by the caller, the same on every machine. */
+uint64_t next_random(uint64_t *state);
+
+/* The number with this letter; NULL if the call takes none. */
+uint64_t *number_of(struct arguments *a, char letter);
+
+/* The slice of this kind; NULL if the call takes none. */
+struct bytes *slice_of(struct arguments *a, enum kind kind);
+
+/* The values of numbers, whichever of them a call takes. */
+struct numbers {
+    uint64_t N, M, s, p;
+};
+
+/* Arguments that a call accepts, if it accepts the numbers. Empty arguments have call NULL. */
+void lawful(struct arguments *a, const struct call *call, struct numbers n, uint64_t seed);
+
+/*
+ * Gives every slice the exact length for the numbers. A number of 4,096 or more counts by its lowest
+ * twelve bits: these lengths fit if it is cut to any width from twelve bits up.
+ */
+void fit(struct arguments *a);
+
+/* ---- plain.c ---- */
+
+uint32_t magnitude(uint32_t word);
+uint32_t encode(uint32_t class_number, uint64_t M);
+uint32_t decode(uint32_t phase, uint64_t M);
+
+/* Coefficient i of a*k modulo X^N + 1. */
+uint32_t product_at(const uint32_t *a, const uint32_t *k, size_t N, size_t i);
+
+/* Word j of the scalar sample that position p of a packed sample extracts to. */
+uint32_t extracted_at(const uint32_t *sample, size_t N, size_t p, size_t j);
+
+/* Makes a call that must be accepted; its bound and every word it writes are checked. */
+void accept(struct arguments *a);
+
+#endif

@@ -1,0 +1,48 @@
+/* The calls behind one shape of arguments. Another call needs a CALL line, an entry and a place in the list. */
+#include "portal.h"
+
+#include "cikenuma.h"
+
+#define SLICE(k) slice[k].at, slice[k].length
+
+/* The call and its two sisters are given the very same arguments. */
+#define CALL(name, ...)                                                                       \
+    static uint32_t name##_answer(const uint64_t *number, const struct lent *slice)           \
+    {                                                                                         \
+        return cikenuma_##name(__VA_ARGS__);                                                  \
+    }                                                                                         \
+    static uint64_t name##_bound(const uint64_t *number, const struct lent *slice)            \
+    {                                                                                         \
+        return cikenuma_##name##_bound(__VA_ARGS__);                                          \
+    }                                                                                         \
+    static uint64_t name##_gates(const uint64_t *number, const struct lent *slice)            \
+    {                                                                                         \
+        return cikenuma_##name##_gates(__VA_ARGS__);                                          \
+    }
+
+CALL(encrypt_classes, number[0], number[1], number[2], SLICE(0), SLICE(1), SLICE(2), SLICE(3), SLICE(4))
+CALL(decrypt_classes, number[0], number[1], number[2], SLICE(0), SLICE(1), SLICE(2))
+CALL(decrypt_scalar, number[0], number[1], SLICE(0), SLICE(1), SLICE(2))
+CALL(extract, number[0], number[1], SLICE(0), SLICE(1))
+
+const struct call encrypt_classes = {
+    "encrypt_classes", "NMs", {KEY, MASK, ERRORS, CLASSES, SAMPLE}, 5, 1, {1, 3, 4, 5, 7, 8, 9, 0},
+    encrypt_classes_answer, encrypt_classes_bound, encrypt_classes_gates,
+};
+
+const struct call decrypt_classes = {
+    "decrypt_classes", "NMs", {KEY, SAMPLE, CLASSES}, 3, 1, {1, 3, 4, 5, 8, 0},
+    decrypt_classes_answer, decrypt_classes_bound, decrypt_classes_gates,
+};
+
+const struct call decrypt_scalar = {
+    "decrypt_scalar", "NM", {KEY, SCALAR, CLASS_WORD}, 3, 1, {1, 3, 5, 8, 0},
+    decrypt_scalar_answer, decrypt_scalar_bound, decrypt_scalar_gates,
+};
+
+const struct call extract = {
+    "extract", "Np", {SAMPLE, SCALAR}, 2, 1, {1, 4, 5, 0},
+    extract_answer, extract_bound, extract_gates,
+};
+
+const struct call *const all_calls[] = {&encrypt_classes, &decrypt_classes, &decrypt_scalar, &extract, NULL};
