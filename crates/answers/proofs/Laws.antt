@@ -20,7 +20,7 @@ use Rattle.ring.specs.Polynomial.{Degree, isDegree}
 use Rattle.ring.proofs.Degrees.{test-degree, degree-test}
 use Rattle.answers.specs.declared.Answer.{Answer}
 use Rattle.answers.specs.declared.Answer.the-variants.{Accepted, Refused, Noisy}
-use Rattle.answers.specs.declared.Figures.{Figures}
+use Rattle.answers.specs.declared.Ledger.{Ledger}
 use Rattle.answers.specs.Answers.{number, _orElse_, noise, greatestMagnitude, after}
 use Rattle.answers.specs.Checks.{ClassNumber, isClassNumber, allBelow, degree, gadget, classNumber, count, depth, position, exact, amplitude, amplitudes, classes, bit, key, first}
 use Rattle.answers.proofs.ClassNumbers.{test-class-number, class-number-test}
@@ -169,7 +169,7 @@ key-held K e i h = let low : getD K i 0 < 2 = all-below-at 2 K (held (allBelow 2
 pub key-met : (K : List ℕ) → ((i : ℕ) → i < length K → getD K i 0 ≤ 1) → key K ≡ 0
 key-met K h = let all : allBelow 2 K ≡ true = below-all 2 K (λ i l. let low : getD K i 0 ≤ 1 = h i l in omega arith) in simp all
 
-quiet : (t : Bool) (f : Figures) (b : ℕ) → number (cond t (Accepted f) (Noisy b)) ≡ 0 → t ≡ true
+quiet : (t : Bool) (f : Ledger) (b : ℕ) → number (cond t (Accepted f) (Noisy b)) ≡ 0 → t ≡ true
 quiet true f b e = refl
 quiet false f b e = absurd (omega arith)
 

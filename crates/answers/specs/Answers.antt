@@ -10,19 +10,19 @@ use Rattle.answers.specs.declared.Answer.the-variants.{Accepted, Refused
 
 -- "Returned": 0 where the call is accepted.
 abbrev pub number : Answer → ℕ
-number (Accepted figures) = 0
+number (Accepted ledger) = 0
 number (Refused k) = k
 number (Noisy b) = 9
 
 -- "Bound": "the bound is 0 in every one but 9".
 abbrev pub bound : Answer → ℕ
-bound (Accepted figures) = figures .bound
+bound (Accepted ledger) = ledger .bound
 bound (Refused k) = 0
 bound (Noisy b) = b
 
 -- "Gates are 0 in every refusal".
 abbrev pub gates : Answer → ℕ
-gates (Accepted figures) = figures .gates
+gates (Accepted ledger) = ledger .gates
 gates (Refused k) = 0
 gates (Noisy b) = 0
 
@@ -46,5 +46,5 @@ greatestMagnitude [] = 0
 greatestMagnitude (w ∷ ws) = max (magnitude w) (greatestMagnitude ws)
 
 -- What a slice that a call writes holds after it. "A refusal changes no lent slice."
-unfoldable pub after : Answer → List ℕ → List ℕ → List ℕ
+unfoldable pub after : (a : Answer) (written before : List ℕ) → List ℕ
 after a written before = cond (eqb (number a) 0) written before

@@ -7,16 +7,16 @@ ghost use Rattle.torus.specs.Bytes.{words};
 ghost use Rattle.answers.specs.Checks as Checks;
 ghost use Rattle.answers.specs.Answers as Answers;
 
-// The figures of an accepted call: its noise bound, and the number of its CMuxes ("gates").
-pub struct Figures {
+// What an accepted call reports: its noise bound, and the number of its CMuxes ("gates").
+pub struct Ledger {
     pub bound: u64,
     pub gates: u64,
 }
 
 pub enum Answer {
-    // With what is reported.
-    Accepted(Figures),
-    // With its number.
+    // With what it reports.
+    Accepted(Ledger),
+    // Refused, with the number.
     Refused(u32),
     // Refused for noise, with the bound.
     Noisy(u64),
@@ -38,7 +38,7 @@ impl Answer {
         ensures { λ r. ⌜ r ≡ Answers.bound self ⌝ }
     {
         match self {
-            Answer::Accepted(figures) => figures.bound,
+            Answer::Accepted(ledger) => ledger.bound,
             Answer::Refused(_) => 0,
             Answer::Noisy(b) => b,
         }
@@ -48,7 +48,7 @@ impl Answer {
         ensures { λ r. ⌜ r ≡ Answers.gates self ⌝ }
     {
         match self {
-            Answer::Accepted(figures) => figures.gates,
+            Answer::Accepted(ledger) => ledger.gates,
             Answer::Refused(_) => 0,
             Answer::Noisy(_) => 0,
         }
@@ -59,7 +59,7 @@ impl Answer {
 pub fn accepted() -> Answer
     ensures { λ r. ⌜ r ≡ Answers.accepted ⌝ }
 {
-    Answer::Accepted(Figures { bound: 0, gates: 0 })
+    Answer::Accepted(Ledger { bound: 0, gates: 0 })
 }
 
 // The earlier of two checks that refuses, or 0.
@@ -201,7 +201,7 @@ pub fn noise(m: u64, bound: u64, gates: u64) -> Answer
     ensures { λ r. ⌜ r ≡ Answers.noise m bound gates ⌝ }
 {
     if bound < 2147483648 / m {
-        Answer::Accepted(Figures { bound, gates })
+        Answer::Accepted(Ledger { bound, gates })
     } else {
         Answer::Noisy(bound)
     }

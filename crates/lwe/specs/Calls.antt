@@ -12,7 +12,7 @@ use Rattle.trlwe.specs.Classes.{decode}
 use Rattle.lwe.specs.Scalar.{scalarPhase, extracted}
 
 -- "Decrypt .. the class of a scalar sample."
-unfoldable pub decryptScalar : (N M : ℕ) → List ℕ → List ℕ → List ℕ → Answer
+unfoldable pub decryptScalar : (N M : ℕ) (key scalar class : List ℕ) → Answer
 decryptScalar N M key scalar class =
     Check.degree N
     orElse Check.classNumber M
@@ -20,17 +20,19 @@ decryptScalar N M key scalar class =
     orElse Check.key (words key)
     orElse accepted
 
-unfoldable pub decryptScalarClass : (N M : ℕ) → List ℕ → List ℕ → List ℕ → List ℕ
+-- What it leaves in the slice of one class.
+unfoldable pub decryptScalarClass : (N M : ℕ) (key scalar class : List ℕ) → List ℕ
 decryptScalarClass N M key scalar class =
     after (decryptScalar N M key scalar class) (bytes (decode M (scalarPhase N (words key) (words scalar)) ∷ [])) class
 
 -- "Extract coefficient p as a scalar sample of N + 1 words"
-unfoldable pub extract : (N p : ℕ) → List ℕ → List ℕ → Answer
+unfoldable pub extract : (N p : ℕ) (sample scalar : List ℕ) → Answer
 extract N p sample scalar =
     Check.degree N
     orElse Check.position N p
     orElse Check.exact (length sample) (2 * N) orElse Check.exact (length scalar) (N + 1)
     orElse accepted
 
-unfoldable pub extractScalar : (N p : ℕ) → List ℕ → List ℕ → List ℕ
+-- What it leaves in the scalar sample's slice.
+unfoldable pub extractScalar : (N p : ℕ) (sample scalar : List ℕ) → List ℕ
 extractScalar N p sample scalar = after (extract N p sample scalar) (bytes (extracted N 1 p (words sample))) scalar

@@ -12,7 +12,7 @@ use Rattle.trlwe.specs.Classes.{message}
 use Rattle.trlwe.specs.Sample.{encryption, decrypted}
 
 -- "Encrypt classes: mask and N error words are lent .. It reports the greatest error magnitude as bound."
-unfoldable pub encryptClasses : (N M s : ℕ) → List ℕ → List ℕ → List ℕ → List ℕ → List ℕ → Answer
+unfoldable pub encryptClasses : (N M s : ℕ) (key mask errors classes sample : List ℕ) → Answer
 encryptClasses N M s key mask errors classes sample =
     Check.degree N
     orElse Check.classNumber M
@@ -23,13 +23,14 @@ encryptClasses N M s key mask errors classes sample =
     orElse Check.key (words key)
     orElse noise M (greatestMagnitude (words errors)) 0
 
-unfoldable pub encryptClassesSample : (N M s : ℕ) → List ℕ → List ℕ → List ℕ → List ℕ → List ℕ → List ℕ
+-- What it leaves in the sample's slice: the mask, and "b = a·K + error + message".
+unfoldable pub encryptClassesSample : (N M s : ℕ) (key mask errors classes sample : List ℕ) → List ℕ
 encryptClassesSample N M s key mask errors classes sample =
     after (encryptClasses N M s key mask errors classes sample)
     (bytes (encryption N 1 (words key) (words mask) (words errors) (message M s (words classes)))) sample
 
 -- "Decrypt s classes of a packed sample"
-unfoldable pub decryptClasses : (N M s : ℕ) → List ℕ → List ℕ → List ℕ → Answer
+unfoldable pub decryptClasses : (N M s : ℕ) (key sample classes : List ℕ) → Answer
 decryptClasses N M s key sample classes =
     Check.degree N
     orElse Check.classNumber M
@@ -38,6 +39,7 @@ decryptClasses N M s key sample classes =
     orElse Check.key (words key)
     orElse accepted
 
-unfoldable pub decryptClassesClasses : (N M s : ℕ) → List ℕ → List ℕ → List ℕ → List ℕ
+-- What it leaves in the slice of classes.
+unfoldable pub decryptClassesClasses : (N M s : ℕ) (key sample classes : List ℕ) → List ℕ
 decryptClassesClasses N M s key sample classes =
     after (decryptClasses N M s key sample classes) (bytes (decrypted N 1 M s (words key) (words sample))) classes

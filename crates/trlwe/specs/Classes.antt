@@ -8,17 +8,17 @@ use lib.Dec.{ltb}
 use lib.ListN.{getD}
 
 -- "Class c is encoded as c·(2^32/M)."
-unfoldable pub encode : ℕ → ℕ → ℕ
+unfoldable pub encode : (M c : ℕ) → ℕ
 encode M c = c * (2 ^ 32 / M)
 
 -- "A phase word f decodes to floor(((f + 2^31/M) mod 2^32) / (2^32/M)), so ties go up."
-unfoldable pub decode : ℕ → ℕ → ℕ
+unfoldable pub decode : (M f : ℕ) → ℕ
 decode M f = (f + 2 ^ 31 / M) % 2 ^ 32 / (2 ^ 32 / M)
 
 -- Whether coefficient i of a message is used. "A packed sample carries s classes in coefficients 0 to s - 1."
-abbrev pub used : ℕ → ℕ → Bool
+abbrev pub used : (s i : ℕ) → Bool
 used s i = ltb i s
 
 -- Coefficient i of the message of s classes. "The other coefficients of its message are 0."
-unfoldable pub message : (M s : ℕ) → List ℕ → ℕ → ℕ
+unfoldable pub message : (M s : ℕ) (classes : List ℕ) (i : ℕ) → ℕ
 message M s classes i = cond (used s i) (encode M (getD classes i 0)) 0

@@ -1,6 +1,6 @@
 -- TRLWE samples ("packed samples") with k masks: k mask polynomials and then the body, (k + 1)·N words. A key is k polynomials.
 -- Document 01 has k = 1: "A sample is a mask polynomial a, then a body polynomial b, 2·N words." In the thesis (source document
--- 001, section 3.2) these are TLWE samples over polynomials.
+-- 001) Definition 3.2.3 has them with k masks.
 -- Assumes nothing.
 use mathlib.Core.Path.{_≡_}
 use mathlib.Core.List.{List, _++_}
@@ -13,34 +13,34 @@ use Rattle.ring.specs.Polynomial.{Degree, coefficients, product}
 use Rattle.trlwe.specs.Classes.{decode}
 
 -- Polynomial c of a list of polynomials of N words each: mask c of a sample, and its body where c is k; polynomial c of a key.
-abbrev pub part : ℕ → List ℕ → ℕ → ℕ → ℕ
+abbrev pub part : (N : ℕ) (l : List ℕ) (c i : ℕ) → ℕ
 part N l c i = getD l (c * N + i) 0
 
--- a·K: coefficient i of the sum of the masks' products with the key's polynomials, as a word.
-unfoldable pub masked : (N k : ℕ) → List ℕ → List ℕ → ℕ → ℕ
+-- a·K, coefficient i, as a word: the masks times the key's polynomials, added up.
+unfoldable pub masked : (N k : ℕ) (key a : List ℕ) (i : ℕ) → ℕ
 masked N k key a i = sum k (λ c. product N (part N key c) (part N a c) i) % 2 ^ 32
 
 -- "Its phase is b - a·K."
-unfoldable pub phase : (N k : ℕ) → List ℕ → List ℕ → ℕ → ℕ
+unfoldable pub phase : (N k : ℕ) (key sample : List ℕ) (i : ℕ) → ℕ
 phase N k key sample i = sub (part N sample k i) (masked N k key sample i)
 
 -- "b = a·K + error + message", coefficient i, with the message f.
-unfoldable pub body : (N k : ℕ) → List ℕ → List ℕ → List ℕ → (ℕ → ℕ) → ℕ → ℕ
+unfoldable pub body : (N k : ℕ) (key a errors : List ℕ) (f : ℕ → ℕ) (i : ℕ) → ℕ
 body N k key a errors f i = (masked N k key a i + coefficients errors i + f i) % 2 ^ 32
 
 -- An encryption of the message f: the masks a, and this body.
-unfoldable pub encryption : (N k : ℕ) → List ℕ → List ℕ → List ℕ → (ℕ → ℕ) → List ℕ
+unfoldable pub encryption : (N k : ℕ) (key a errors : List ℕ) (f : ℕ → ℕ) → List ℕ
 encryption N k key a errors f = a ++ tabulate N (body N k key a errors f)
 
 -- "A trivial sample has mask 0." Its body is the message f.
-unfoldable pub trivial : (N k : ℕ) → (ℕ → ℕ) → List ℕ
+unfoldable pub trivial : (N k : ℕ) (f : ℕ → ℕ) → List ℕ
 trivial N k f = replicate (k * N) 0 ++ tabulate N f
 
--- The classes that the phase's coefficients 0 to s - 1 decode to.
-unfoldable pub decrypted : (N k M s : ℕ) → List ℕ → List ℕ → List ℕ
+-- Decryption "lists what the phase's coefficients 0 to s - 1 decode to".
+unfoldable pub decrypted : (N k M s : ℕ) (key sample : List ℕ) → List ℕ
 decrypted N k M s key sample = tabulate s (λ i. decode M (phase N k key sample i))
 
--- What the code asks of a key, in bytes: k polynomials of 0s and 1s.
+-- What the code asks of a key, in bytes: k polynomials. "A key K is N words, each 0 or 1."
 pub record Key (N k : ℕ) (key : List ℕ) : Type 0 where
   pub degree : Degree N
   pub size : length key ≡ 4 * (k * N)

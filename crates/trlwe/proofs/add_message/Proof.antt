@@ -58,7 +58,8 @@ loop-again c =
       omega arith,
       omega arith,
       c .before .before .put-word .ensures
-          ∙ filled-in-place W.add _ (λ j. Classes.encode (s .m) (getD (words (s .classes .now)) j 0)) (words (s .body .now)) _ _ _ _ (at .inv .2) (c .before .before .before .before .word-at2 .ensures) class (c .before .before .before .add .ensures),
+          ∙ filled-in-place W.add _ (λ j. Classes.encode (s .m) (getD (words (s .classes .now)) j 0)) (words (s .body .now)) _ _ _ _
+          (at .inv .2) (c .before .before .before .before .word-at2 .ensures) class (c .before .before .before .add .ensures),
     )
 
 same-length : tie.Need-same-length Inv-loop μ-loop
@@ -69,7 +70,10 @@ returns c =
     let s = c .before .before .before .before .args in
     let at = c .before .loop in
     let e : at .i ≡ s .s = omega arith in
-    at .inv .2 ∙ rw e (message-added (s .n) (s .m) (s .s) (words (s .body .now)) (words (s .classes .now)) (omega (arith, length-words (s .body .now))) (omega arith) (words-word _ (λ i. c .before .before .before .slice-known .given i .fits)))
+    at .inv .2
+    ∙ rw e
+    (message-added (s .n) (s .m) (s .s) (words (s .body .now)) (words (s .classes .now)) (omega (arith, length-words (s .body .now))) (omega arith)
+    (words-word _ (λ i. c .before .before .before .slice-known .given i .fits)))
 
 pub add-message-spec : {M : Type 1} → statement M
 add-message-spec =

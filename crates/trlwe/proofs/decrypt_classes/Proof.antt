@@ -46,7 +46,8 @@ unfolding Calls.decryptClassesClasses
 returns-2 c =
     let e = sym (answered (c .before .before .before .before .before)) ∙ c .before .before .before .before .if1 .left in
     let f = fit (c .before .before .before .before) in
-    (sym e, after-accepted _ (c .before .before .before .before .before .before .before .before .before .before .before .args .s) _ _ _ e (omega (arith, f .classes-length)) (λ i. c .slice-known2 .given i .fits) (c .before .before .decrypt .ensures))
+    let n = c .before .before .before .before .before .before .before .before .before .before .before .args .s in
+    (sym e, after-accepted _ n _ _ _ e (omega (arith, f .classes-length)) (λ i. c .slice-known2 .given i .fits) (c .before .before .decrypt .ensures))
 
 pub decrypt-classes-spec : {M : Type 1} → statement M
 decrypt-classes-spec =

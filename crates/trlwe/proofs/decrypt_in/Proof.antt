@@ -24,7 +24,9 @@ same-length-2 c = search needs
 
 returns : tie.Need-returns
 returns c =
-    room-made _ _ _ _ _ _ _ _ _ (c .before .before .before .before .before .before .before .before .before .before .before .before .before .before .before .before .before .pre .4) (c .before .before .before .before .before .before .before .before .before .before .before .clear-words .ensures) (c .before .before .before .before .before .before .before .add-masked .ensures) (c .before .before .decode-words .ensures)
+    let cleared = c .before .before .before .before .before .before .before .before .before .before .before .clear-words .ensures in
+    let added = c .before .before .before .before .before .before .before .add-masked .ensures in
+    room-made _ _ _ _ _ _ _ _ _ (c .before .before .before .before .before .before .before .before .before .before .before .before .before .before .before .before .before .pre .4) cleared added (c .before .before .decode-words .ensures)
 
 pub decrypt-in-spec : {M : Type 1} → statement M
 decrypt-in-spec =

@@ -1,6 +1,6 @@
 -- `trlwe::encrypt` meets its contract. Assumes nothing.
 use native.Mathlib.Omega.{arith}
-use mathlib.Core.Path.{ap, _∙_}
+use mathlib.Core.Path.{_≡_, ap, _∙_}
 use mathlib.Core.List.{_++_}
 use Prim.Native.Nat.{_-_, _*_}
 use lib.ListN.{length}
@@ -36,12 +36,14 @@ unfolding encryption
 returns c =
     let s = c .before .before .before .before .before .before .before .before .before .before .before .before .before .args in
     let n = s .k * s .n in
+    let p = length (s .a .now) in
     let zero = c .before .before .before .before .before .before .encrypt-zero in
-    body-back (s .n) n (length (s .a .now)) (length (zero .last .0) - length (s .a .now)) (zero .last .0) (words (s .a .now)) _ (zero .ensures)
-    (omega (arith, length-words (s .a .now))) (length-tabulate (s .n) _) (omega arith) (omega arith) _ (omega arith) (omega arith)
+    let size : length (words (s .a .now)) ≡ n = omega (arith, length-words (s .a .now)) in
+    let all = length-tabulate (s .n) _ in
+    body-back (s .n) n p (length (zero .last .0) - p) (zero .last .0) (words (s .a .now)) _ (zero .ensures) size all (omega arith) (omega arith) _ (omega arith) (omega arith)
     ∙ ap (λ ws. words (s .a .now) ++ ws)
     (message-made (s .n) (s .k) (words (s .key .now)) (words (s .a .now)) (words (s .errors .now)) _ _ _
-    (body-lent (s .n) n (length (s .a .now)) (length (zero .last .0) - length (s .a .now)) (zero .last .0) (words (s .a .now)) _ (zero .ensures) (omega (arith, length-words (s .a .now))) (length-tabulate (s .n) _) (omega arith) (omega arith))
+    (body-lent (s .n) n p (length (zero .last .0) - p) (zero .last .0) (words (s .a .now)) _ (zero .ensures) size all (omega arith) (omega arith))
     (c .before .before .add-message .ensures))
 
 pub encrypt-spec : {M : Type 1} → statement M

@@ -48,7 +48,8 @@ unfolding Calls.encryptClassesSample
 returns-2 c =
     let e = sym (answered (c .before .before .before .before .before)) ∙ c .before .before .before .before .if1 .left in
     let f = fit (c .before .before .before .before) in
-    (sym e, after-accepted _ (2 * c .before .before .before .before .before .before .before .before .before .before .before .before .before .args .n) _ _ _ e (omega (arith, f .sample-length)) (λ i. c .slice-known2 .given i .fits) (c .before .before .encrypt .ensures))
+    let n = 2 * c .before .before .before .before .before .before .before .before .before .before .before .before .before .args .n in
+    (sym e, after-accepted _ n _ _ _ e (omega (arith, f .sample-length)) (λ i. c .slice-known2 .given i .fits) (c .before .before .encrypt .ensures))
 
 pub encrypt-classes-spec : {M : Type 1} → statement M
 encrypt-classes-spec =
