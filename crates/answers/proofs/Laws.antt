@@ -25,14 +25,6 @@ use Rattle.answers.specs.Answers.{number, _orElse_, noise, greatestMagni
 use Rattle.answers.specs.Checks.{ClassNumber, isClassNumber, allBelow, degree, gadget, classNumber, count, depth, position, exact, amplitude, amplitudes, classes, bit, key, first}
 use Rattle.answers.proofs.ClassNumbers.{test-class-number, class-number-test}
 
--- ---- tests
-
--- Tests that hold in the same cases are equal.
-pub same-truth : (s t : Bool) → (s ≡ true → t ≡ true) → (t ≡ true → s ≡ true) → s ≡ t
-same-truth true t there back = sym (there refl)
-same-truth false true there back = back refl
-same-truth false false there back = refl
-
 -- ---- checks one after another
 
 -- The earlier of two checks that refuses, by the cases of the earlier.

@@ -3,10 +3,11 @@
 use mathlib.Core.Path.{_≡_, ap, ap₂, sym, _∙_}
 use mathlib.Core.Bool.{Bool, true, false, cond}
 use mathlib.Core.List.{List, [], _∷_}
-use Prim.Native.Nat.{ℕ, suc, _+_, _-_, _*_, _/_, _%_, _^_, _≤_, _<_}
-use native.Mathlib.Nat.{add-zero, zero-add, suc-mul, mul-comm, mul-le-mul-right, lt-of-not-le, mul-add-div-right, mul-add-mod-self-right, div-eq-of-lt, mod-eq-of-lt, mod-lt}
+use Prim.Native.Nat.{ℕ, _+_, _-_, _*_, _/_, _%_, _^_, _≤_, _<_}
+use native.Mathlib.Nat.{zero-add, mul-comm, lt-of-not-le, mod-lt}
 use native.Mathlib.Decide.{decLe}
 use native.Mathlib.Omega.{arith}
+use lib.Arith.{digits-div, digits-mod, digits-lt}
 use lib.Dec.{lit<, leb}
 use lib.ListN.{length, getD, length-append, List·getD-append}
 use lib.Seq.{getD-at}
@@ -85,13 +86,10 @@ module _ (N k p : ℕ) (sample : List ℕ) where
   extracted-mask : (c j : ℕ) → c < k → j < N → getD (extracted N k p sample) (c * N + j) 0 ≡ extractedWord N p (part N sample c) j
   unfolding extracted
   extracted-mask c j lc lj =
-      let next : suc c * N ≤ k * N = mul-le-mul-right N lc in
-      let before : c * N + j < k * N = omega (arith, suc-mul c N) in
-      let quotient : (c * N + j) / N ≡ c = mul-add-div-right (omega arith) c j ∙ ap (λ x. c + x) (div-eq-of-lt lj) ∙ add-zero c in
-      let remainder : (c * N + j) % N ≡ j = mul-add-mod-self-right c N j ∙ mod-eq-of-lt lj in
+      let before : c * N + j < k * N = digits-lt lc lj in
       List·getD-append (masks N k p sample) (part N sample k p ∷ []) 0 (c * N + j) (omega (arith, length-masks))
       ∙ tabulate-at (k * N) (maskWord N p sample) (c * N + j) before
-      ∙ ap₂ (λ d r. extractedWord N p (part N sample d) r) quotient remainder
+      ∙ ap₂ (λ d r. extractedWord N p (part N sample d) r) (digits-div c lj) (digits-mod c lj)
 
   extracted-body : getD (extracted N k p sample) (k * N) 0 ≡ part N sample k p
   unfolding extracted

@@ -1,17 +1,16 @@
 -- What the product's code needs: its table, its loops' steps, and that the sum of all rows is the product.
 -- Assumes nothing.
-use mathlib.Core.Path.{_≡_, ap, ap₂, sym, _∙_}
+use mathlib.Core.Path.{_≡_, ap, sym, _∙_}
 use mathlib.Core.Logic.{_⊎_, inl, inr}
 use mathlib.Core.List.{List}
 use Prim.Native.Nat.{ℕ, suc, _+_, _-_, _*_, _%_, _^_, _≤_, _<_}
-use native.Mathlib.Nat.{zero-add, zero-mul, mul-comm, mod-add-mod, add-mod-mod, eq-or-lt-of-le}
-use native.Mathlib.Numerals.{add-one}
+use native.Mathlib.Nat.{zero-add, zero-mul, mul-comm, eq-or-lt-of-le}
 use native.Mathlib.Omega.{arith}
 use lib.ListN.{length, getD, set, replicate, length-set, getD-replicate}
 use lib.Seq.{getD-set-same, getD-set-other}
 use Rattle.torus.specs.Sum.{sum, tabulate}
 use Rattle.torus.specs.Word.{add, sub, mul}
-use Rattle.torus.proofs.Sums.{sum-cong, sum-mul}
+use Rattle.torus.proofs.Sums.{sum-cong, sum-mul, summed-more}
 use Rattle.torus.proofs.Lists.{tabulate-cong}
 use Rattle.torus.proofs.Near.{Near, near-path, near-refl, congruent-trans, congruent-add, congruent-scale, congruent-sum, near-eq, sub-near}
 use Rattle.ring.specs.Polynomial.{coefficients, Agree, inside, passed, product, addProduct}
@@ -53,11 +52,9 @@ row-none n size y t l k b = getD-replicate size k 0 0 (omega arith)
 pub row-more : (n m d : ℕ) (y t acc acc′ : List ℕ) → d ≡ coefficients y m → Agree n (coefficients acc) (λ k. rowSum n y t m k % 2 ^ 32)
     → Agree n (coefficients acc′) (λ k. add (coefficients acc k) (mul d (coefficients t (n - m + k))))
     → Agree n (coefficients acc′) (λ k. rowSum n y t (m + 1) k % 2 ^ 32)
-unfolding rowSum sum
-row-more n m d y t acc acc′ ed before step k b = rw (add-one m)
-    (step k b ∙ ap₂ (λ x c. add x (mul c (coefficients t (n - m + k)))) (before k b) ed
-    ∙ mod-add-mod (rowSum n y t m k) (2 ^ 32) _
-    ∙ add-mod-mod (rowSum n y t m k) (coefficients y m * coefficients t (n - m + k)) (2 ^ 32))
+unfolding rowSum
+row-more n m d y t acc acc′ ed before step k b =
+    step k b ∙ summed-more m _ _ _ (before k b) (ap (λ c. mul c (coefficients t (n - m + k))) ed)
 
 module _ (n : ℕ) (y p t : List ℕ) (words : (i : ℕ) → coefficients p i < 2 ^ 32) (signs : BothSigns n p n t) (k : ℕ) (l : k < n) where
   low : (i : ℕ) → i < suc k → coefficients t (n - i + k) ≡ coefficients p (k - i)

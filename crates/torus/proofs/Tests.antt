@@ -1,6 +1,6 @@
 -- Laws of tests, for the checks of every layer.
 -- Assumes nothing.
-use mathlib.Core.Path.{_≡_, refl}
+use mathlib.Core.Path.{_≡_, refl, sym}
 use mathlib.Core.Bool.{Bool, true, false, _&&_, cond}
 use Prim.Native.Nat.{ℕ, suc}
 use native.Mathlib.Omega.{arith}
@@ -19,3 +19,9 @@ refuted false told never = refl
 pub held : (b : Bool) (x k : ℕ) → cond b x (suc k) ≡ 0 → (b ≡ true) × (x ≡ 0)
 held true x k e = (refl, e)
 held false x k e = absurd (omega arith)
+
+-- Tests that hold in the same cases are equal.
+pub same-truth : (s t : Bool) → (s ≡ true → t ≡ true) → (t ≡ true → s ≡ true) → s ≡ t
+same-truth true t there back = sym (there refl)
+same-truth false true there back = back refl
+same-truth false false there back = refl

@@ -4,8 +4,8 @@ use mathlib.Core.Path.{_≡_, _∙_, ap}
 use Prim.Native.Nat.{_*_, _/_}
 use mathlib.Core.Bool.{cond}
 use borrow.Author.Tests.{ne-eqb, eq-eqb, eqb-true}
-use Rattle.answers.proofs.Laws.{same-truth}
 use borrow.Author.Needs.{needs}
+use Rattle.torus.proofs.Tests.{same-truth}
 use Rattle.answers.proofs.exact.Statement.{statement}
 use Rattle.answers.proofs.exact.Tie as tie
 

@@ -1,8 +1,7 @@
 -- `answers::is_class_number` meets its contract. Assumes nothing.
 use native.Mathlib.Omega.{arith}
 use borrow.Author.Tests.{leb-true, le-leb}
-use Rattle.torus.proofs.Tests.{refuted}
-use Rattle.answers.proofs.Laws.{same-truth}
+use Rattle.torus.proofs.Tests.{refuted, same-truth}
 use Rattle.answers.proofs.ClassNumbers.{test-class-number, class-number-test}
 use Rattle.answers.proofs.is_class_number.Statement.{statement}
 use Rattle.answers.proofs.is_class_number.Tie as tie
