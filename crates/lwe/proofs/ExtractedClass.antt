@@ -4,20 +4,20 @@ use mathlib.Core.Path.{_≡_, ap, ap₂, sym, _∙_}
 use mathlib.Core.List.{List, [], _∷_}
 use Prim.Native.Nat.{ℕ, _+_, _*_, _^_, _<_}
 use native.Mathlib.Nat.{one-mul}
-use native.Mathlib.Omega.{arith}
 use lib.Dec.{lit<}
 use lib.ListN.{length, getD}
 use Rattle.torus.specs.Sum.{tabulate}
 use Rattle.torus.specs.Bytes.{AreBytes, words, bytes}
-use Rattle.torus.proofs.Lists.{tabulate-at, tabulate-below}
+use Rattle.torus.proofs.Lists.{tabulate-below}
 use Rattle.torus.proofs.Parts.{words-word, length-bytes, words-bytes}
 use Rattle.answers.specs.Answers.{number, accepted}
 use Rattle.answers.specs.Checks.{ClassNumber}
 use Rattle.answers.proofs.Laws.{after-written}
 use Rattle.trlwe.specs.Classes.{decode}
-use Rattle.trlwe.specs.Sample.{Key, phase, decrypted}
+use Rattle.trlwe.specs.Sample.{Key, phase}
 use Rattle.trlwe.specs.Calls.{decryptClasses, decryptClassesClasses}
-use Rattle.trlwe.proofs.Decoding.{decode-class}
+use Rattle.trlwe.proofs.Decoding.{decode-word}
+use Rattle.trlwe.proofs.Decrypted.{decrypt-class}
 use Rattle.trlwe.proofs.Accepted.{Decryptable, decrypt-accepted}
 use Rattle.lwe.specs.Scalar.{scalarPhase, extracted}
 use Rattle.lwe.specs.Calls.{decryptScalar, decryptScalarClass, extract, extractScalar}
@@ -42,25 +42,11 @@ pub extract-words : (N p : ℕ) (sample scalar : List ℕ) → AreBytes sample �
 extract-words N p sample scalar byte ok =
     ap words (scalar-bytes N p sample scalar ok) ∙ words-bytes _ (extracted-below N 1 p (words sample) (words-word sample byte))
 
-module _ (M : ℕ) (ok : ClassNumber M) where
-  class-word : (f : ℕ) → decode M f < 2 ^ 32
-  class-word f = omega (arith, decode-class M ok f, ok .most)
-
-  -- One class as bytes, and back.
-  class-back : (f : ℕ) → getD (words (bytes (decode M f ∷ []))) 0 0 ≡ decode M f
-  unfolding tabulate
-  class-back f =
-      ap (λ ws. getD ws 0 0) (words-bytes (decode M f ∷ []) (tabulate-below (2 ^ 32) 1 (λ i. decode M f) (lit< tt) (λ i. class-word f)))
-
--- Class i that an accepted decryption leaves.
-pub decrypt-class : (N M s : ℕ) (key sample classes : List ℕ) → number (decryptClasses N M s key sample classes) ≡ 0 → (i : ℕ) → i < s
-    → getD (words (decryptClassesClasses N M s key sample classes)) i 0 ≡ decode M (phase N 1 (words key) (words sample) i)
-unfolding decryptClassesClasses decrypted
-decrypt-class N M s key sample classes e i l =
-    let ok : Decryptable N M s key sample classes = decrypt-accepted N M s key sample classes e in
-    ap (λ (ws : List ℕ). getD ws i 0) (ap words (after-written _ _ _ e)
-    ∙ words-bytes _ (tabulate-below (2 ^ 32) s _ (lit< tt) (λ j. class-word M (ok .class-number) _)))
-    ∙ tabulate-at s _ i l
+-- One class as bytes, and back.
+class-back : (M : ℕ) → ClassNumber M → (f : ℕ) → getD (words (bytes (decode M f ∷ []))) 0 0 ≡ decode M f
+unfolding tabulate
+class-back M ok f =
+    ap (λ ws. getD ws 0 0) (words-bytes (decode M f ∷ []) (tabulate-below (2 ^ 32) 1 (λ i. decode M f) (lit< tt) (λ i. decode-word M ok f)))
 
 -- ---- both calls
 

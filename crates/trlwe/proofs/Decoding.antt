@@ -50,6 +50,9 @@ module _ (M : ℕ) (ok : ClassNumber M) where
       let some : 0 < 2 ^ 32 / M = omega (arith, half-some M ok, half-band M ok) in
       div-lt-iff-lt-mul some .1 (subst (λ Q. (f + 2 ^ 31 / M) % 2 ^ 32 < Q) (sym (band M ok)) (mod-lt (f + 2 ^ 31 / M) (lit< tt)))
 
+  pub decode-word : (f : ℕ) → decode M f < 2 ^ 32
+  decode-word f = omega (arith, decode-class f, ok .most)
+
 -- ---- messages
 
 pub message-used : (M s : ℕ) (classes : List ℕ) (i : ℕ) → i < s → message M s classes i ≡ encode M (getD classes i 0)

@@ -2,5 +2,6 @@ pub mod Decoding
 pub mod Masks
 pub mod Parts
 pub mod Accepted
+pub mod Decrypted
 pub mod Phases
 pub mod RoundTrip

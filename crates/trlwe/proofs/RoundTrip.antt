@@ -10,17 +10,18 @@ use lib.Dec.{lit<}
 use lib.ListN.{length, getD, length-append}
 use Rattle.torus.specs.Word.{add, magnitude, distance}
 use Rattle.torus.specs.Bytes.{AreBytes, words, bytes}
-use Rattle.torus.proofs.Lists.{length-tabulate, tabulate-below, tabulate-cong, tabulate-self, append-below}
+use Rattle.torus.proofs.Lists.{length-tabulate, tabulate-below, append-below}
 use Rattle.torus.proofs.Near.{Near, near-refl, near-add, near-weaken, near-mod, congruent-trans}
 use Rattle.torus.proofs.Magnitudes.{near-distance, magnitude-near}
 use Rattle.torus.proofs.Parts.{length-words, words-word, bytes-words, length-bytes, words-bytes}
 use Rattle.answers.specs.Answers.{number, bound, greatestMagnitude}
 use Rattle.answers.proofs.Laws.{greatest-at, after-written}
-use Rattle.trlwe.specs.Classes.{decode, message}
+use Rattle.trlwe.specs.Classes.{message}
 use Rattle.trlwe.specs.Sample.{phase, body, encryption, decrypted}
 use Rattle.trlwe.specs.Calls.{encryptClasses, encryptClassesSample, decryptClasses, decryptClassesClasses}
 use Rattle.trlwe.proofs.Accepted.{Encryptable, encrypt-accepted, encrypt-accepts, decrypt-accepts}
-use Rattle.trlwe.proofs.Decoding.{decode-near, message-used, message-word}
+use Rattle.trlwe.proofs.Decrypted.{decrypted-near, decrypt-bytes}
+use Rattle.trlwe.proofs.Decoding.{message-word}
 use Rattle.trlwe.proofs.Phases.{encryption-phase}
 
 -- A word to which an error is added is within the error's magnitude of what it was.
@@ -95,7 +96,6 @@ pub round-trip : (N M s : ℕ) (key mask errors classes sample out : List ℕ) �
     → length out ≡ 4 * s
     → (number (decryptClasses N M s key (encryptClassesSample N M s key mask errors classes sample) out) ≡ 0)
     × (decryptClassesClasses N M s key (encryptClassesSample N M s key mask errors classes sample) out ≡ classes)
-unfolding decryptClassesClasses decrypted
 round-trip N M s key mask errors classes sample out mb eb cb e len =
     let ok : Encryptable N M s key mask errors classes sample = encrypt-accepted N M s key mask errors classes sample e in
     let packed : List ℕ = encryptClassesSample N M s key mask errors classes sample in
@@ -111,13 +111,8 @@ round-trip N M s key mask errors classes sample out mb eb cb e len =
       sample-length = size;
       classes-length = len;
     })) in
-    let class : (i : ℕ) → i < s → decode M (phase N 1 (words key) (words packed) i) ≡ getD (words classes) i 0 = λ i l.
-    let inside : i < N = omega (arith, ok .most) in
-    decode-near M (ok .class-number) (ok .below i l) (ok .quiet)
-    (subst (λ w. Near (2 ^ 32) (greatestMagnitude (words errors)) (phase N 1 (words key) (words packed) i) w)
-    (message-used M s (words classes) i l) (phase-near N M s key mask errors classes sample mb eb e i inside)) in (
-      accepted,
-      after-written _ _ _ accepted
-          ∙ ap bytes (tabulate-cong s _ _ class ∙ tabulate-self s (words classes) (omega (arith, length-words classes, ok .classes-length)))
-          ∙ bytes-words s classes (ok .classes-length) cb,
-    )
+    let held : decrypted N 1 M s (words key) (words packed) ≡ words classes =
+    decrypted-near N 1 M s (greatestMagnitude (words errors)) (words key) (words packed) (words classes) (ok .class-number)
+    (omega (arith, length-words classes, ok .classes-length)) (ok .below) (ok .quiet)
+    (λ i l. let inside : i < N = omega (arith, ok .most) in phase-near N M s key mask errors classes sample mb eb e i inside) in
+    (accepted, decrypt-bytes N M s key packed out accepted ∙ ap bytes held ∙ bytes-words s classes (ok .classes-length) cb)
