@@ -3,16 +3,13 @@
 use mathlib.Core.Path.{_≡_, ap, sym, _∙_}
 use mathlib.Core.List.{List}
 use Prim.Native.Nat.{ℕ, _*_, _≤_, _<_}
-use lib.Dec.{eqb, leb}
 use lib.ListN.{length, getD}
-use borrow.Author.Tests.{eqb-true, leb-true}
 use Rattle.torus.specs.Bytes.{words, bytes}
-use Rattle.torus.proofs.Tests.{held}
 use Rattle.torus.proofs.Parts.{bytes-words}
-use Rattle.gadget.specs.Digits.{Lawful, isLawful, digitPolynomial}
-use Rattle.gadget.proofs.Bounds.{test-lawful}
-use Rattle.ring.specs.Polynomial.{Degree, isDegree, addProduct}
-use Rattle.ring.proofs.Degrees.{test-degree}
+use Rattle.gadget.specs.Digits.{Lawful, digitPolynomial}
+use Rattle.ring.specs.Polynomial.{Degree, addProduct}
+use Rattle.answers.specs.Checks as Check
+use Rattle.answers.proofs.Laws.{first-none, degree-held, gadget-held, count-held, exact-held}
 use Rattle.digit_row.specs.Call.{number, digitBytes, sumBytes}
 
 pub record Fit (N g L j x row digits out : ℕ) : Type 0 where
@@ -28,23 +25,22 @@ pub record Fit (N g L j x row digits out : ℕ) : Type 0 where
 pub accepted : (N g L j x row digits out : ℕ) → number N g L j x row digits out ≡ 0 → Fit N g L j x row digits out
 unfolding number
 accepted N g L j x row digits out e =
-    let a = held (isDegree N) _ 0 e in
-    let b = held (isLawful g L) _ 1 (a .1) in
-    let c = held (leb 1 j) _ 3 (b .1) in
-    let d = held (leb j L) _ 3 (c .1) in
-    let f = held (eqb x (4 * N)) _ 4 (d .1) in
-    let h = held (eqb row (4 * N)) _ 4 (f .1) in
-    let i = held (eqb digits (4 * N)) _ 4 (h .1) in
-    let k = held (eqb out (4 * N)) 0 4 (i .1) in
+    let all = first-none (Check.first (Check.degree N) (Check.first (Check.gadget g L) (Check.count L j))) _ e in
+    let degree = first-none (Check.degree N) _ (all .0) in
+    let gadget = first-none (Check.gadget g L) (Check.count L j) (degree .1) in
+    let place = count-held L j (gadget .1) in
+    let lengths = first-none (Check.first (Check.exact x N) (Check.exact row N)) _ (all .1) in
+    let read = first-none (Check.exact x N) (Check.exact row N) (lengths .0) in
+    let written = first-none (Check.exact digits N) (Check.exact out N) (lengths .1) in
     record {
-      degree = test-degree N (a .0);
-      lawful = test-lawful g L (b .0);
-      some = leb-true 1 j (c .0);
-      within = leb-true j L (d .0);
-      x-length = eqb-true x (4 * N) (f .0);
-      row-length = eqb-true row (4 * N) (h .0);
-      digits-length = eqb-true digits (4 * N) (i .0);
-      out-length = eqb-true out (4 * N) (k .0);
+      degree = degree-held N (degree .0);
+      lawful = gadget-held g L (gadget .0);
+      some = place .0;
+      within = place .1;
+      x-length = exact-held x N (read .0);
+      row-length = exact-held row N (read .1);
+      digits-length = exact-held digits N (written .0);
+      out-length = exact-held out N (written .1);
     }
 
 -- Every byte of the digits, and of the accumulator.

@@ -3,23 +3,20 @@
 use mathlib.Core.Path.{_≡_}
 use mathlib.Core.Bool.{cond}
 use mathlib.Core.List.{List}
-use Prim.Native.Nat.{ℕ, _*_}
-use lib.Dec.{eqb, leb}
+use Prim.Native.Nat.{ℕ}
+use lib.Dec.{eqb}
 use lib.ListN.{length}
 use Rattle.torus.specs.Bytes.{words, bytes}
-use Rattle.gadget.specs.Digits.{isLawful, digitPolynomial}
-use Rattle.ring.specs.Polynomial.{isDegree, addProduct}
+use Rattle.gadget.specs.Digits.{digitPolynomial}
+use Rattle.ring.specs.Polynomial.{addProduct}
+use Rattle.answers.specs.Checks as Check
 
--- 0 if all fits, else by the first fault: 1 the degree, 2 the gadget, 4 the number j of the digit, 5 a length in bytes.
+-- 0 if all fits, else by the first fault: 1 the degree, 2 the gadget, 4 the number j of the digit, which is from 1 to L, 5 a length
+-- in bytes.
 unfoldable pub number : (N g L j x row digits out : ℕ) → ℕ
 number N g L j x row digits out =
-    cond (isDegree N)
-    (cond (isLawful g L)
-    (cond (leb 1 j) (cond (leb j L)
-    (cond (eqb x (4 * N)) (cond (eqb row (4 * N)) (cond (eqb digits (4 * N)) (cond (eqb out (4 * N)) 0 5) 5) 5) 5)
-    4) 4)
-    2)
-    1
+    Check.first (Check.first (Check.degree N) (Check.first (Check.gadget g L) (Check.count L j)))
+    (Check.first (Check.first (Check.exact x N) (Check.exact row N)) (Check.first (Check.exact digits N) (Check.exact out N)))
 
 -- The bytes of the digits, and those of the accumulator, after an accepted call.
 unfoldable pub digitBytes : (N g L j : ℕ) → List ℕ → List ℕ

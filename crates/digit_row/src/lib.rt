@@ -6,32 +6,13 @@ ghost use Rattle.digit_row.specs.Call as C;
 fn refusal(n: u64, g: u64, l: u64, j: u64, x: usize, row: usize, digits: usize, out: usize) -> u32
     ensures { λ r. ⌜ r ≡ C.number n g l j x row digits out ⌝ }
 {
-    if !ring::is_degree(n) {
-        return 1;
-    }
-    if !gadget::lawful(g, l) {
-        return 2;
-    }
-    if j < 1 {
-        return 4;
-    }
-    if l < j {
-        return 4;
-    }
-    let bytes = 4 * (n as usize);
-    if x != bytes {
-        return 5;
-    }
-    if row != bytes {
-        return 5;
-    }
-    if digits != bytes {
-        return 5;
-    }
-    if out != bytes {
-        return 5;
-    }
-    0
+    let numbers = answers::first(
+        answers::degree(n),
+        answers::first(answers::gadget(g, l), answers::count(l, j)),
+    );
+    let read = answers::first(answers::exact(x, n), answers::exact(row, n));
+    let written = answers::first(answers::exact(digits, n), answers::exact(out, n));
+    answers::first(numbers, answers::first(read, written))
 }
 
 // To out, digit polynomial j of x times row, modulo X^n + 1. The digit polynomial is left in digits.
