@@ -42,6 +42,11 @@ first-orElse (suc a) b x = refl
 pub triple-orElse : (a b c : ℕ) (x : Answer) → (first a (first b c) orElse x) ≡ (a orElse b orElse c orElse x)
 triple-orElse a b c x = first-orElse a (first b c) x ∙ ap (λ y. a orElse y) (first-orElse b c x)
 
+-- However they are grouped.
+pub first-first : (a b c : ℕ) → first (first a b) c ≡ first a (first b c)
+first-first zero b c = refl
+first-first (suc a) b c = refl
+
 -- Checks in one that passes have all passed.
 pub first-none : (a b : ℕ) → first a b ≡ 0 → (a ≡ 0) × (b ≡ 0)
 first-none zero b e = (refl, e)

@@ -1,8 +1,9 @@
-// What a public call answers, and the checks that calls share. Every check takes every number and every slice.
+// What a public call answers, and the checks that calls share. Every check takes every number and every slice; only the last,
+// `noise`, asks that the number of classes has been tested.
 ghost use mathlib.Core.Path.{_≡_};
 ghost use mathlib.Core.Bool.{cond};
-ghost use Prim.Native.Nat.{_≤_};
-ghost use lib.ListN.{length};
+ghost use Prim.Native.Nat.{_*_, _≤_};
+ghost use lib.ListN.{length, take};
 ghost use Rattle.torus.specs.Bytes.{words};
 ghost use Rattle.answers.specs.Checks as Checks;
 ghost use Rattle.answers.specs.Answers as Answers;
@@ -34,6 +35,7 @@ impl Answer {
         }
     }
 
+    // The noise bound that it reports.
     pub fn bound(self) -> u64
         ensures { λ r. ⌜ r ≡ Answers.bound self ⌝ }
     {
@@ -44,6 +46,7 @@ impl Answer {
         }
     }
 
+    // The gates that it reports.
     pub fn gates(self) -> u64
         ensures { λ r. ⌜ r ≡ Answers.gates self ⌝ }
     {
@@ -207,11 +210,11 @@ pub fn noise(m: u64, bound: u64, gates: u64) -> Answer
     }
 }
 
-// The greatest magnitude among the words of s.
-pub fn greatest_magnitude(s: &[u8]) -> u32
-    ensures { λ r. ⌜ r ≡ Answers.greatestMagnitude (words (now (s .entry))) ⌝ }
+// The greatest magnitude among the first n words of s.
+pub fn greatest_magnitude(s: &[u8], n: usize) -> u32
+    requires { ⌜ 4 * n ≤ length (now s) ⌝ }
+    ensures { λ r. ⌜ r ≡ Answers.greatestMagnitude (take n (words (now (s .entry)))) ⌝ }
 {
-    let n = s.len() / 4;
     let mut most = 0;
     let mut i = 0;
     while i < n {

@@ -25,20 +25,19 @@ pub record Fit (N g L j x row digits out : ℕ) : Type 0 where
 pub accepted : (N g L j x row digits out : ℕ) → number N g L j x row digits out ≡ 0 → Fit N g L j x row digits out
 unfolding number
 accepted N g L j x row digits out e =
-    let all = first-none (Check.first (Check.degree N) (Check.first (Check.gadget g L) (Check.count L j))) _ e in
-    let degree = first-none (Check.degree N) _ (all .0) in
-    let gadget = first-none (Check.gadget g L) (Check.count L j) (degree .1) in
-    let place = count-held L j (gadget .1) in
-    let lengths = first-none (Check.first (Check.exact x N) (Check.exact row N)) _ (all .1) in
-    let read = first-none (Check.exact x N) (Check.exact row N) (lengths .0) in
-    let written = first-none (Check.exact digits N) (Check.exact out N) (lengths .1) in
+    let degree = first-none (Check.degree N) _ e in
+    let gadget = first-none (Check.gadget g L) _ (degree .1) in
+    let count = first-none (Check.count L j) _ (gadget .1) in
+    let x-length = first-none (Check.exact x N) _ (count .1) in
+    let row-length = first-none (Check.exact row N) _ (x-length .1) in
+    let written = first-none (Check.exact digits N) (Check.exact out N) (row-length .1) in
     record {
       degree = degree-held N (degree .0);
       lawful = gadget-held g L (gadget .0);
-      some = place .0;
-      within = place .1;
-      x-length = exact-held x N (read .0);
-      row-length = exact-held row N (read .1);
+      some = count-held L j (count .0) .0;
+      within = count-held L j (count .0) .1;
+      x-length = exact-held x N (x-length .0);
+      row-length = exact-held row N (row-length .0);
       digits-length = exact-held digits N (written .0);
       out-length = exact-held out N (written .1);
     }

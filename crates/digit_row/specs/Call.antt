@@ -15,8 +15,12 @@ use Rattle.answers.specs.Checks as Check
 -- in bytes.
 unfoldable pub number : (N g L j x row digits out : ℕ) → ℕ
 number N g L j x row digits out =
-    Check.first (Check.first (Check.degree N) (Check.first (Check.gadget g L) (Check.count L j)))
-    (Check.first (Check.first (Check.exact x N) (Check.exact row N)) (Check.first (Check.exact digits N) (Check.exact out N)))
+    Check.first (Check.degree N)
+    (Check.first (Check.gadget g L)
+    (Check.first (Check.count L j)
+    (Check.first (Check.exact x N)
+    (Check.first (Check.exact row N)
+    (Check.first (Check.exact digits N) (Check.exact out N))))))
 
 -- The bytes of the digits, and those of the accumulator, after an accepted call.
 unfoldable pub digitBytes : (N g L j : ℕ) → List ℕ → List ℕ

@@ -157,7 +157,8 @@ pub fn encrypt_classes_answer(
     if contents != 0 {
         return Answer::Refused(contents);
     }
-    answers::noise(m, answers::greatest_magnitude(errors) as u64, 0)
+    let bound = answers::greatest_magnitude(errors, n as usize);
+    answers::noise(m, bound as u64, 0)
 }
 
 // Encrypts s classes under the key, with a mask and errors that the caller chose. Answers its number.
@@ -176,9 +177,9 @@ pub fn encrypt_classes(
         × (now (sample .exit) ≡ Calls.encryptClassesSample n m s
         (now (key .entry)) (now (mask .entry)) (now (errors .entry)) (now (classes .entry)) (now (sample .entry))) ⌝ }
 {
-    let refusal = encrypt_classes_answer(n, m, s, key, mask, errors, classes, sample).number();
-    if refusal != 0 {
-        return refusal;
+    let fault = encrypt_classes_answer(n, m, s, key, mask, errors, classes, sample).number();
+    if fault != 0 {
+        return fault;
     }
     encrypt(
         sample,

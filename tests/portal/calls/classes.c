@@ -64,26 +64,29 @@ static void test_bare(uint64_t M)
     free_arguments(&a);
 }
 
+/* A decryption, with N = 1 and the key 1, of the two words of a sample that is to hold the class. */
+static void test_decryption(const struct call *call, enum kind lent, enum kind written, uint64_t M,
+                            const uint32_t *sample, uint32_t class_number)
+{
+    struct arguments a = {0};
+    const uint32_t key = 1;
+    lawful(&a, call, (struct numbers){1, M, 1, 0}, 1);
+    set_words(slice_of(&a, KEY), &key, 1);
+    set_words(slice_of(&a, lent), sample, 2);
+    make_call(&a, (struct answer){0, 0, 0});
+    check_call(&a, word_at(slice_of(&a, written), 0) == class_number, "it is %" PRIu32,
+               word_at(slice_of(&a, written), 0));
+    free_arguments(&a);
+}
+
 /* A phase under a mask and a key that aren't 0, by both decryptions. */
 static void test_phase(uint64_t M, uint32_t phase, uint32_t class_number)
 {
-    struct arguments a = {0};
-    const uint32_t mask = UINT32_C(0x9E3779B9), key = 1;
+    const uint32_t mask = UINT32_C(0x9E3779B9);
     const uint32_t sample[2] = {mask, mask + phase};
     at("M = %" PRIu64 ": phase %" PRIu32 " is class %" PRIu32, M, phase, class_number);
-    lawful(&a, &decrypt_classes, (struct numbers){1, M, 1, 0}, 1);
-    set_words(slice_of(&a, KEY), &key, 1);
-    set_words(slice_of(&a, SAMPLE), sample, 2);
-    make_call(&a, (struct answer){0, 0, 0});
-    check_call(&a, word_at(slice_of(&a, CLASSES), 0) == class_number, "it is %" PRIu32,
-               word_at(slice_of(&a, CLASSES), 0));
-    lawful(&a, &decrypt_scalar, (struct numbers){1, M, 0, 0}, 1);
-    set_words(slice_of(&a, KEY), &key, 1);
-    set_words(slice_of(&a, SCALAR), sample, 2);
-    make_call(&a, (struct answer){0, 0, 0});
-    check_call(&a, word_at(slice_of(&a, CLASS_WORD), 0) == class_number, "of a scalar sample it is %" PRIu32,
-               word_at(slice_of(&a, CLASS_WORD), 0));
-    free_arguments(&a);
+    test_decryption(&decrypt_classes, SAMPLE, CLASSES, M, sample, class_number);
+    test_decryption(&decrypt_scalar, SCALAR, CLASS_WORD, M, sample, class_number);
 }
 
 /* A class reaches from half a step below its word to just under half a step above: ties go up. */

@@ -27,31 +27,6 @@ void at(const char *format, ...)
     va_end(list);
 }
 
-/* Counts a check; whether its failure is to be printed. */
-static int to_print(int holds)
-{
-    checks++;
-    failed += !holds;
-    return !holds && failed <= PRINTED;
-}
-
-static void print_failure(const char *format, va_list list)
-{
-    printf("FAILED %s: ", tested);
-    vprintf(format, list);
-    printf("\n");
-}
-
-void check(int holds, const char *format, ...)
-{
-    va_list list;
-    if (!to_print(holds))
-        return;
-    va_start(list, format);
-    print_failure(format, list);
-    va_end(list);
-}
-
 static void print_arguments(const struct arguments *a)
 {
     printf("       %s", a->call->name);
@@ -63,15 +38,34 @@ static void print_arguments(const struct arguments *a)
     printf("\n");
 }
 
+/* Counts a check. One that fails is printed, with the call's arguments where there is a call. */
+static void count(const struct arguments *a, int holds, const char *format, va_list list)
+{
+    checks++;
+    failed += !holds;
+    if (holds || failed > PRINTED)
+        return;
+    printf("FAILED %s: ", tested);
+    vprintf(format, list);
+    printf("\n");
+    if (a)
+        print_arguments(a);
+}
+
+void check(int holds, const char *format, ...)
+{
+    va_list list;
+    va_start(list, format);
+    count(NULL, holds, format, list);
+    va_end(list);
+}
+
 void check_call(const struct arguments *a, int holds, const char *format, ...)
 {
     va_list list;
-    if (!to_print(holds))
-        return;
     va_start(list, format);
-    print_failure(format, list);
+    count(a, holds, format, list);
     va_end(list);
-    print_arguments(a);
 }
 
 int finish(void)

@@ -1,6 +1,7 @@
 -- `digit_row::refusal` meets its contract. Assumes nothing.
-use mathlib.Core.Path.{ap₂, _∙_}
+use mathlib.Core.Path.{ap, ap₂, _∙_}
 use Rattle.answers.specs.Checks as Check
+use Rattle.answers.proofs.Laws.{first-first}
 use Rattle.digit_row.specs.Call.{number}
 use borrow.Author.Needs.{needs}
 use Rattle.digit_row.proofs.refusal.Statement.{statement}
@@ -57,7 +58,13 @@ returns c =
     (n .before .first .ensures ∙ ap₂ Check.first (n .before .before .before .gadget .ensures) (n .before .before .count .ensures)) in
     let read = r .first3 .ensures ∙ ap₂ Check.first (r .before .before .exact .ensures) (r .before .exact2 .ensures) in
     let written = w .first4 .ensures ∙ ap₂ Check.first (w .before .before .exact3 .ensures) (w .before .exact4 .ensures) in
-    c .first6 .ensures ∙ ap₂ Check.first numbers (c .before .first5 .ensures ∙ ap₂ Check.first read written)
+    let s = n .before .before .before .before .before .args in
+    let lengths = Check.first (Check.exact (s .digits) (s .n)) (Check.exact (s .out) (s .n)) in
+    let all = Check.first (Check.exact (s .x) (s .n)) (Check.first (Check.exact (s .row) (s .n)) lengths) in
+    c .first6 .ensures
+    ∙ ap₂ Check.first numbers (c .before .first5 .ensures ∙ ap₂ Check.first read written ∙ first-first (Check.exact (s .x) (s .n)) (Check.exact (s .row) (s .n)) lengths)
+    ∙ first-first (Check.degree (s .n)) (Check.first (Check.gadget (s .g) (s .l)) (Check.count (s .l) (s .j))) all
+    ∙ ap (Check.first (Check.degree (s .n))) (first-first (Check.gadget (s .g) (s .l)) (Check.count (s .l) (s .j)) all)
 
 pub refusal-spec : {M : Type 1} → statement M
 refusal-spec =

@@ -1,15 +1,17 @@
 -- `trlwe::encrypt_classes_answer` meets its contract. Assumes nothing.
 use native.Mathlib.Omega.{arith}
 use mathlib.Core.Path.{_≡_, ap, ap₂, sym, _∙_}
-use Prim.Native.Nat.{_*_}
+use Prim.Native.Nat.{_*_, _≤_}
 use lib.ListN.{length}
+use lib.Seq.{take-all}
 use Rattle.torus.specs.Bytes.{words}
+use Rattle.torus.proofs.Parts.{length-words}
 use Rattle.ring.specs.Polynomial.{Degree}
 use Rattle.answers.specs.Checks.{ClassNumber}
 use Rattle.answers.specs.Checks as Check
-use Rattle.answers.specs.Answers.{_orElse_, noise}
+use Rattle.answers.specs.Answers.{_orElse_, noise, greatestMagnitude}
 use Rattle.answers.specs.declared.Answer.{Answer}
-use Rattle.answers.proofs.Laws.{stopped, went-on, first-orElse, triple-orElse, first-none, degree-held, class-number-held}
+use Rattle.answers.proofs.Laws.{stopped, went-on, first-orElse, triple-orElse, first-none, degree-held, class-number-held, count-held, exact-held}
 use Rattle.trlwe.specs.Calls as Calls
 use borrow.Author.Needs.{needs}
 use Rattle.trlwe.proofs.encrypt_classes_answer.Statement.{statement}
@@ -72,12 +74,19 @@ past-others : (c : tie.Else3) (x : Answer) → let s = start-3 (c .before) .args
 past-others c x =
     sym (went-on _ x (sym (others (c .before)) ∙ c .if3 .left)) ∙ first-orElse _ _ x ∙ past-read (c .before .before .before .before) _
 
--- The numbers are lawful past their checks.
-lawful : (c : tie.Else1) → let s = start (c .before) .args in Degree (s .n) × ClassNumber (s .m)
+-- The numbers are lawful past their checks, and there are N errors past theirs.
+lawful : (c : tie.Else1) → let s = start (c .before) .args in Degree (s .n) × ClassNumber (s .m) × (s .s ≤ s .n)
 lawful c =
     let s = start (c .before) .args in
-    let passed = first-none (Check.degree (s .n)) (Check.first (Check.classNumber (s .m)) (Check.count (s .n) (s .s))) (sym (numbers (c .before)) ∙ c .if1 .left) in
-    (degree-held (s .n) (passed .0), class-number-held (s .m) (first-none (Check.classNumber (s .m)) (Check.count (s .n) (s .s)) (passed .1) .0))
+    let degree = first-none (Check.degree (s .n)) (Check.first (Check.classNumber (s .m)) (Check.count (s .n) (s .s))) (sym (numbers (c .before)) ∙ c .if1 .left) in
+    let others = first-none (Check.classNumber (s .m)) (Check.count (s .n) (s .s)) (degree .1) in
+    (degree-held (s .n) (degree .0), class-number-held (s .m) (others .0), count-held (s .n) (s .s) (others .1) .1)
+
+errors-length : (c : tie.Else2) → let s = start-2 (c .before) .args in length (s .errors .now) ≡ 4 * s .n
+errors-length c =
+    let s = start-2 (c .before) .args in
+    let rest = first-none (Check.exact (length (s .key .now)) (s .n)) _ (sym (read (c .before)) ∙ c .if2 .left) .1 in
+    exact-held _ _ (first-none (Check.exact (length (s .mask .now)) (s .n)) (Check.exact (length (s .errors .now)) (s .n)) rest .1)
 
 degree-requires : tie.Need-degree-requires
 degree-requires c κs = search needs
@@ -147,7 +156,7 @@ unfolding Calls.encryptClasses
 returns-4 c = stopped _ _ _ (contents (c .before)) (c .if4 .taken) ∙ first-orElse _ _ _ ∙ past-others (c .before .before .before .before) _
 
 greatest-magnitude-requires : tie.Need-greatest-magnitude-requires
-greatest-magnitude-requires c κs = search needs
+greatest-magnitude-requires c κs = omega (arith, errors-length (c .before .before .before .before .before .before .before .before), lawful (c .before .before .before .before .before .before .before .before .before .before .before .before .before .before) .2)
 
 cast-noise : tie.Need-cast-noise
 cast-noise c = search needs
@@ -159,7 +168,8 @@ returns-5 : tie.Need-returns-5
 unfolding Calls.encryptClasses
 returns-5 c =
     let s = start-4 (c .before .before .before) .args in
-    c .noise .ensures ∙ ap (λ b. noise (s .m) b 0) (c .before .greatest-magnitude .ensures)
+    let all = take-all (s .n) (words (s .errors .now)) (omega (arith, length-words (s .errors .now), errors-length (c .before .before .before .before .before .before .before .before .before .before))) in
+    c .noise .ensures ∙ ap (λ b. noise (s .m) b 0) (c .before .greatest-magnitude .ensures ∙ ap greatestMagnitude all)
     ∙ sym (went-on _ _ (sym (contents (c .before .before .before)) ∙ c .before .before .if4 .left)) ∙ first-orElse _ _ _ ∙ past-others (c .before .before .before .before .before .before) _
 
 pub encrypt-classes-answer-spec : {M : Type 1} → statement M
