@@ -1,7 +1,8 @@
-// The product kernel in plain C: digit polynomial j of x times row, added to out modulo X^n + 1.
-// Compiled once for each level of optimisation, under the name SCHOOLBOOK.
+// The product kernel and the CMux in plain C, modulo X^n + 1.
+// Compiled once for each level of optimisation, under the names SCHOOLBOOK and CMUX.
 #include <stddef.h>
 #include <stdint.h>
+#include <string.h>
 
 static void write_digits(uint32_t *restrict digits, const uint32_t *restrict x, size_t n, uint32_t g, uint32_t l, uint32_t j) {
     uint32_t offset = g * l < 32 ? 1u << (31 - g * l) : 0;
@@ -22,7 +23,22 @@ static void add_product(uint32_t *restrict out, const uint32_t *restrict small, 
     }
 }
 
+// To out, digit polynomial j of x times row.
 void SCHOOLBOOK(size_t n, uint32_t g, uint32_t l, uint32_t j, const uint32_t *x, const uint32_t *row, uint32_t *digits, uint32_t *out) {
     write_digits(digits, x, n, g, l, j);
     add_product(out, digits, row, n);
+}
+
+// The CMux; room has 3n words.
+void CMUX(size_t n, uint32_t g, uint32_t l, const uint32_t *block, const uint32_t *sample0, const uint32_t *sample1, uint32_t *room,
+          uint32_t *out) {
+    uint32_t *difference = room, *digits = room + 2 * n;
+    for (size_t i = 0; i < 2 * n; i++)
+        difference[i] = sample1[i] - sample0[i];
+    memcpy(out, sample0, 2 * n * sizeof *out);
+    for (size_t r = 0; r < 2 * l; r++) {
+        write_digits(digits, difference + r / l * n, n, g, l, (uint32_t)(r % l) + 1);
+        add_product(out, digits, block + 2 * r * n, n);
+        add_product(out + n, digits, block + (2 * r + 1) * n, n);
+    }
 }

@@ -3,8 +3,9 @@
  *
  * A broker encrypts what an applicant answered, an evaluator without the key works it through a
  * rate table, and the broker decrypts a rate class. The scheme is levelled TFHE over 32-bit torus
- * words. This header declares the broker's side: encrypting and decrypting classes, and extracting
- * one coefficient of a packed sample. It can be included from C and from C++.
+ * words. This header declares the broker's side, encrypting and decrypting classes and encrypting
+ * selector bits, and what needs no key: the external product, the CMux ("gate"), and extracting one
+ * coefficient of a packed sample. It can be included from C and from C++.
  *
  * Masks and errors must come from the caller's own source of randomness: the library draws none.
  * It makes no claim about secrecy, and chooses no parameters.
@@ -27,7 +28,20 @@
  * Message         of a packed sample: the encoded classes in coefficients 0 to s - 1, and 0 in the
  *                 others.
  * Noise bound     no coefficient of the phase is farther than this from the message. While it is
- *                 below 2^31/M every class decodes to itself.
+ *                 below 2^31/M every class decodes to itself. The distance of two words is the
+ *                 magnitude of their difference.
+ * Gadget          the base 2^g and the number L of digits, with g*L at most 32. Its steps are
+ *                 h_j = 2^(32 - g*j), for j from 1 to L.
+ * Digits          of a word: it is rounded to the nearest multiple of h_L, ties up, and written as the
+ *                 sum of digit_j * h_j modulo 2^32, every digit from -2^(g-1) to 2^(g-1) - 1. They are
+ *                 unique. Rounding moves a word by at most E = 2^(31 - g*L), or 0 if g*L is 32.
+ * Block           a selector block, a TRGSW sample: 2*L packed samples as rows, 4*L*N words. It holds
+ *                 the bit m within A if no coefficient of any row's phase is farther than A from what
+ *                 it should be: -m*h_j*K for row j (j = 1 to L), and m*h_j for row L + j.
+ * Amplitude       what the caller declares of a block or a sample: the block holds its bit within it,
+ *                 or it is the sample's noise bound. Only its size is tested.
+ * Charge          what an external product or a CMux adds to the noise, with a block of amplitude A:
+ *                 2*L*N*2^(g-1)*A + (1 + N)*E.
  *
  *
  * CONVENTIONS
@@ -49,6 +63,8 @@
  * and return the noise bound and the number of gates that the call reports: gates are 0 in every
  * refusal, and the bound is 0 in every refusal but 9.
  *
+ * No call, and no sister, uses more than 64 KiB of stack.
+ *
  *
  * RETURNED NUMBERS
  *
@@ -65,8 +81,7 @@
  *     8      0            a key word is above 1
  *     9      the bound    the bound is 2^31/M or more
  *
- * g, L, d, amplitudes and selector bits are arguments of selectors and lookups. No call in this header
- * takes them, so none returns 2 or 6.
+ * d is an argument of lookups; no call in this header takes it.
  */
 #ifndef CIKENUMA_H
 #define CIKENUMA_H
@@ -194,6 +209,118 @@ uint64_t cikenuma_extract_bound(uint64_t N, uint64_t p,
 uint64_t cikenuma_extract_gates(uint64_t N, uint64_t p,
                                 const uint8_t *sample, size_t sample_length,
                                 const uint8_t *scalar, size_t scalar_length);
+
+/*
+ * Encrypts a selector bit as a block.
+ *
+ *   N        degree
+ *   g        the gadget's base is 2^g
+ *   L        how many digits the gadget has
+ *   bit      the bit m, 0 or 1
+ *   key      N words, each 0 or 1
+ *   masks    2*L*N words, a mask polynomial for each row
+ *   errors   2*L*N words, the noise of every row, by its centred reading
+ *   block    4*L*N words, written: 2*L rows, each a mask, then a body. Row r starts as an encryption
+ *            of 0, its mask the lent one and its body mask*key + errors. Then m*h_j is added to the
+ *            constant coefficient: of the mask in row j (j = 1 to L), of the body in row L + j.
+ *
+ * Refusals, in order: 1, 2, 5, 7, 8.
+ * Bound: the greatest magnitude of all 2*L*N errors: the block holds the bit within it. It can be any
+ * magnitude; there is no limit.
+ * Gates: 0.
+ */
+uint32_t cikenuma_encrypt_selector(uint64_t N, uint64_t g, uint64_t L, uint64_t bit,
+                                   const uint8_t *key, size_t key_length,
+                                   const uint8_t *masks, size_t masks_length,
+                                   const uint8_t *errors, size_t errors_length,
+                                   uint8_t *block, size_t block_length);
+
+uint64_t cikenuma_encrypt_selector_bound(uint64_t N, uint64_t g, uint64_t L, uint64_t bit,
+                                         const uint8_t *key, size_t key_length,
+                                         const uint8_t *masks, size_t masks_length,
+                                         const uint8_t *errors, size_t errors_length,
+                                         const uint8_t *block, size_t block_length);
+
+uint64_t cikenuma_encrypt_selector_gates(uint64_t N, uint64_t g, uint64_t L, uint64_t bit,
+                                         const uint8_t *key, size_t key_length,
+                                         const uint8_t *masks, size_t masks_length,
+                                         const uint8_t *errors, size_t errors_length,
+                                         const uint8_t *block, size_t block_length);
+
+/*
+ * The external product of a block with a packed sample: it holds the bit times the sample's message.
+ *
+ *   N                  degree
+ *   g                  the gadget's base is 2^g
+ *   L                  how many digits the gadget has
+ *   amplitude          of the block, at most 2^31
+ *   sample_amplitude   of the sample, at most 2^31
+ *   block              4*L*N words
+ *   sample             2*N words
+ *   out                2*N words, written: the sum over the rows of digit polynomial times row. Digits
+ *                      1 to L of the mask go with rows 1 to L, those of the body with the last L.
+ *
+ * Refusals, in order: 1, 2, 5, 6.
+ * Bound: the charge plus sample_amplitude.
+ * Gates: 0.
+ */
+uint32_t cikenuma_external_product(uint64_t N, uint64_t g, uint64_t L,
+                                   uint64_t amplitude, uint64_t sample_amplitude,
+                                   const uint8_t *block, size_t block_length,
+                                   const uint8_t *sample, size_t sample_length,
+                                   uint8_t *out, size_t out_length);
+
+uint64_t cikenuma_external_product_bound(uint64_t N, uint64_t g, uint64_t L,
+                                         uint64_t amplitude, uint64_t sample_amplitude,
+                                         const uint8_t *block, size_t block_length,
+                                         const uint8_t *sample, size_t sample_length,
+                                         const uint8_t *out, size_t out_length);
+
+uint64_t cikenuma_external_product_gates(uint64_t N, uint64_t g, uint64_t L,
+                                         uint64_t amplitude, uint64_t sample_amplitude,
+                                         const uint8_t *block, size_t block_length,
+                                         const uint8_t *sample, size_t sample_length,
+                                         const uint8_t *out, size_t out_length);
+
+/*
+ * The CMux, or gate: picks sample0 if the block's bit is 0, and sample1 if it is 1.
+ *
+ *   N            degree
+ *   g            the gadget's base is 2^g
+ *   L            how many digits the gadget has
+ *   amplitude    of the block, at most 2^31
+ *   amplitude0   of sample0, at most 2^31
+ *   amplitude1   of sample1, at most 2^31
+ *   block        4*L*N words
+ *   sample0      2*N words
+ *   sample1      2*N words
+ *   out          2*N words, written: sample0 plus the external product of the block with
+ *                sample1 - sample0
+ *
+ * Refusals, in order: 1, 2, 5, 6.
+ * Bound: the greater of amplitude0 and amplitude1, plus the charge.
+ * Gates: 1.
+ */
+uint32_t cikenuma_cmux(uint64_t N, uint64_t g, uint64_t L,
+                       uint64_t amplitude, uint64_t amplitude0, uint64_t amplitude1,
+                       const uint8_t *block, size_t block_length,
+                       const uint8_t *sample0, size_t sample0_length,
+                       const uint8_t *sample1, size_t sample1_length,
+                       uint8_t *out, size_t out_length);
+
+uint64_t cikenuma_cmux_bound(uint64_t N, uint64_t g, uint64_t L,
+                             uint64_t amplitude, uint64_t amplitude0, uint64_t amplitude1,
+                             const uint8_t *block, size_t block_length,
+                             const uint8_t *sample0, size_t sample0_length,
+                             const uint8_t *sample1, size_t sample1_length,
+                             const uint8_t *out, size_t out_length);
+
+uint64_t cikenuma_cmux_gates(uint64_t N, uint64_t g, uint64_t L,
+                             uint64_t amplitude, uint64_t amplitude0, uint64_t amplitude1,
+                             const uint8_t *block, size_t block_length,
+                             const uint8_t *sample0, size_t sample0_length,
+                             const uint8_t *sample1, size_t sample1_length,
+                             const uint8_t *out, size_t out_length);
 
 #ifdef __cplusplus
 }

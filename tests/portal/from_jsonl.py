@@ -17,6 +17,9 @@ TABLE = {
     "decrypt_packed": ("decrypt_classes", "N M s", "key sample", "out"),
     "decrypt_scalar": ("decrypt_scalar", "N M", "key sample", "out"),
     "extract": ("extract", "N p", "sample", "out"),
+    "encrypt_selector": ("encrypt_selector", "N g L bit", "key masks errors", "out"),
+    "external_product": ("external_product", "N g L A A_in", "block sample", "out"),
+    "gate": ("cmux", "N g L A A0 A1", "block sample0 sample1", "out"),
 }
 
 HEADER = """\

@@ -10,71 +10,11 @@
 
 enum { MAX_N = 1024 };
 
-/* How words are chosen: at random, or as an extreme. */
-enum choice { RANDOM, NONE, MOST, LEAST, TURNS, ONE, CHOICES };
-
 /* One round: what is encrypted, and the sample that comes out. */
 struct round {
     struct numbers n;
     uint32_t key[MAX_N], mask[MAX_N], errors[MAX_N], classes[MAX_N], sample[2 * MAX_N];
 };
-
-static uint64_t state;
-
-static uint64_t below(uint64_t end)
-{
-    return next_random(&state) % end;
-}
-
-/* A signed number from -most to most. */
-static int64_t chosen(enum choice choice, int64_t most, uint64_t i, uint64_t place)
-{
-    switch (choice) {
-    case NONE:
-        return 0;
-    case MOST:
-        return most;
-    case LEAST:
-        return -most;
-    case TURNS:
-        return i % 2 ? -most : most;
-    case ONE:
-        return i == place ? most : 0;
-    default:
-        return (int64_t)below(2 * (uint64_t)most + 1) - most;
-    }
-}
-
-static enum choice any_choice(void)
-{
-    return below(2) ? RANDOM : (enum choice)below(CHOICES);
-}
-
-static void fill_errors(struct round *r)
-{
-    enum choice choice = any_choice();
-    uint64_t place = below(r->n.N);
-    /* The greatest magnitude that is accepted. */
-    int64_t most = (int64_t)(UINT64_C(0x80000000) / r->n.M) - 1;
-    for (uint64_t i = 0; i < r->n.N; i++)
-        r->errors[i] = (uint32_t)chosen(choice, most, i, place);
-}
-
-static void fill_mask(struct round *r)
-{
-    enum choice choice = any_choice();
-    uint64_t place = below(r->n.N);
-    for (uint64_t i = 0; i < r->n.N; i++)
-        r->mask[i] = (uint32_t)chosen(choice, INT64_C(0x80000000), i, place);
-}
-
-static void fill_key(struct round *r)
-{
-    enum choice choice = any_choice();
-    uint64_t place = below(r->n.N);
-    for (uint64_t i = 0; i < r->n.N; i++)
-        r->key[i] = choice == RANDOM ? (uint32_t)below(2) : chosen(choice, 1, i, place) != 0;
-}
 
 static void fill_classes(struct round *r)
 {
@@ -89,21 +29,12 @@ static uint32_t message_at(const struct round *r, uint64_t i)
     return i < r->n.s ? encode(r->classes[i], r->n.M) : 0;
 }
 
-static uint64_t greatest_error(const struct round *r)
-{
-    uint64_t greatest = 0;
-    for (uint64_t i = 0; i < r->n.N; i++)
-        if (magnitude(r->errors[i]) > greatest)
-            greatest = magnitude(r->errors[i]);
-    return greatest;
-}
-
 /* The sample's mask is the lent one, and its phase is message plus error in all N coefficients. */
 static void check_sample(const struct arguments *a, const struct round *r)
 {
     size_t N = (size_t)r->n.N;
     for (size_t i = 0; i < N; i++) {
-        uint32_t phase = r->sample[N + i] - product_at(r->sample, r->key, N, i);
+        uint32_t phase = phase_at(r->sample, r->key, N, i);
         check_call(a, r->sample[i] == r->mask[i], "mask word %zu isn't the lent one", i);
         check_call(a, phase == message_at(r, i) + r->errors[i], "phase %zu is %" PRIu32 ", not %" PRIu32, i, phase,
                    message_at(r, i) + r->errors[i]);
@@ -119,9 +50,8 @@ static void encrypt_round(struct round *r)
     set_words(slice_of(&a, MASK), r->mask, N);
     set_words(slice_of(&a, ERRORS), r->errors, N);
     set_words(slice_of(&a, CLASSES), r->classes, (size_t)r->n.s);
-    make_call(&a, (struct answer){0, greatest_error(r), 0});
-    for (size_t i = 0; i < 2 * N; i++)
-        r->sample[i] = word_at(slice_of(&a, SAMPLE), i);
+    make_call(&a, (struct answer){0, greatest_magnitude(r->errors, N), 0});
+    read_words(r->sample, 2 * MAX_N, slice_of(&a, SAMPLE));
     check_sample(&a, r);
     free_arguments(&a);
 }
@@ -185,9 +115,10 @@ static void run_round(struct numbers n, uint64_t seed)
     static struct round r;
     r.n = n;
     at("seed %" PRIu64 ": N = %" PRIu64 ", M = %" PRIu64 ", s = %" PRIu64, seed, n.N, n.M, n.s);
-    fill_key(&r);
-    fill_mask(&r);
-    fill_errors(&r);
+    choose_key(r.key, (size_t)n.N);
+    choose_words(r.mask, (size_t)n.N, UINT64_C(0x80000000));
+    /* Up to the greatest magnitude that is accepted. */
+    choose_words(r.errors, (size_t)n.N, UINT64_C(0x80000000) / n.M - 1);
     fill_classes(&r);
     encrypt_round(&r);
     decrypt_round(&r, n.s);
@@ -204,12 +135,12 @@ int main(int argc, char **argv)
     uint64_t seed = argc > 1 ? strtoull(argv[1], NULL, 0) : UINT64_C(20240229);
     start("round_trip");
     printf("round_trip: seed %" PRIu64 "\n", seed);
-    state = seed;
+    seed_random(seed);
     for (uint64_t N = 1; N <= MAX_N; N *= 2)
         for (uint64_t M = 2; M <= 65536; M *= 2)
             for (int turn = 0; turn < (N <= 64 ? 12 : 4); turn++) {
                 const uint64_t s[] = {1, N, 1 + below(N), 1 + below(N)};
-                run_round((struct numbers){N, M, s[turn % 4], 0}, seed);
+                run_round((struct numbers){.N = N, .M = M, .s = s[turn % 4]}, seed);
             }
     return finish();
 }

@@ -15,7 +15,7 @@ use Rattle.torus.specs.Bytes.{words, bytes}
 use Rattle.torus.proofs.Parts.{bytes-words}
 use Rattle.torus.proofs.Tests.{both, held}
 use Rattle.gadget.specs.Digits.{Lawful, isLawful}
-use Rattle.gadget.proofs.Bounds.{test-lawful}
+use Rattle.gadget.proofs.Bounds.{test-lawful, lawful-test}
 use Rattle.ring.specs.Polynomial.{Degree, isDegree}
 use Rattle.ring.proofs.Degrees.{test-degree, degree-test}
 use Rattle.answers.specs.declared.Answer.{Answer}
@@ -114,6 +114,9 @@ degree-met N ok = simp (degree-test N ok)
 pub gadget-held : (g L : ℕ) → gadget g L ≡ 0 → Lawful g L
 gadget-held g L e = test-lawful g L (held (isLawful g L) 0 1 e .0)
 
+pub gadget-met : (g L : ℕ) → Lawful g L → gadget g L ≡ 0
+gadget-met g L ok = simp (lawful-test g L ok)
+
 pub class-number-held : (M : ℕ) → classNumber M ≡ 0 → ClassNumber M
 class-number-held M e = test-class-number M (held (isClassNumber M) 0 2 e .0)
 
@@ -146,6 +149,9 @@ exact-met bytes words e = simp (eq-eqb bytes (4 * words) e)
 pub amplitude-held : (A : ℕ) → amplitude A ≡ 0 → A ≤ 2 ^ 31
 amplitude-held A e = leb-true A (2 ^ 31) (held (leb A (2 ^ 31)) 0 5 e .0)
 
+pub amplitude-met : (A : ℕ) → A ≤ 2 ^ 31 → amplitude A ≡ 0
+amplitude-met A h = simp (le-leb A (2 ^ 31) h)
+
 pub amplitudes-held : (As : List ℕ) → amplitudes As ≡ 0 → (i : ℕ) → i < length As → getD As i 0 ≤ 2 ^ 31
 amplitudes-held As e i h =
     let low : getD As i 0 < 2 ^ 31 + 1 = all-below-at (2 ^ 31 + 1) As (held (allBelow (2 ^ 31 + 1) As) 0 5 e .0) i h in
@@ -159,6 +165,9 @@ classes-met M cs h = simp (below-all M cs h)
 
 pub bit-held : (m : ℕ) → bit m ≡ 0 → m ≤ 1
 bit-held m e = leb-true m 1 (held (leb m 1) 0 6 e .0)
+
+pub bit-met : (m : ℕ) → m ≤ 1 → bit m ≡ 0
+bit-met m h = simp (le-leb m 1 h)
 
 pub key-held : (K : List ℕ) → key K ≡ 0 → (i : ℕ) → i < length K → getD K i 0 ≤ 1
 key-held K e i h = let low : getD K i 0 < 2 = all-below-at 2 K (held (allBelow 2 K) 0 7 e .0) i h in omega arith

@@ -42,7 +42,7 @@ precision-twice g L = go (decLe 32 (g * L))
 pub precision-half : (g L : ℕ) → precision g L ≡ step g L / 2
 precision-half g L = ⊎-elim (λ e. omega arith) (λ e. omega arith) (precision-twice g L)
 
-precision-le : (g L : ℕ) → precision g L ≤ 2 ^ 31
+pub precision-le : (g L : ℕ) → precision g L ≤ 2 ^ 31
 precision-le g L = omega (arith, precision-half g L, pow-mono {i = 32 - g * L} {j = 32} (omega arith))
 
 -- ---- rounding

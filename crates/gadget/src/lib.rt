@@ -34,6 +34,22 @@ fn pow2(k: u32) -> u32
     1 << k
 }
 
+// Half of the base.
+pub fn half(g: u32) -> u32
+    requires { ⌜ (1 ≤ g) × (g ≤ 16) ⌝ }
+    ensures { λ r. ⌜ r ≡ D.half g ⌝ }
+{
+    pow2(g - 1)
+}
+
+// h_j, step j of the gadget.
+pub fn step(g: u32, j: u32) -> u32
+    requires { ⌜ (1 ≤ g) × (g ≤ 16) × (1 ≤ j) × (g * j ≤ 32) ⌝ }
+    ensures { λ r. ⌜ r ≡ D.step g j ⌝ }
+{
+    pow2(32 - g * j)
+}
+
 // E: half of the last step, or 0 where the last step is 1.
 pub fn precision(g: u32, l: u32) -> u32
     requires { ⌜ D.Lawful g l ⌝ }
@@ -50,7 +66,7 @@ pub fn offset(g: u32, l: u32) -> u32
     requires { ⌜ D.Lawful g l ⌝ }
     ensures { λ r. ⌜ r ≡ D.offset g l ⌝ }
 {
-    let half = pow2(g - 1);
+    let half = half(g);
     let mut o = precision(g, l);
     let mut j: u32 = 0;
     while j < l {
@@ -66,7 +82,7 @@ fn low(q: u32, g: u32) -> u32
     ensures { λ r. ⌜ r ≡ W.sub (q % 2 ^ g) (D.half g) ⌝ }
 {
     let mask = pow2(g) - 1;
-    let half = pow2(g - 1);
+    let half = half(g);
     torus::sub(q & mask, half)
 }
 

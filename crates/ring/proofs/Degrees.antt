@@ -8,6 +8,7 @@ use native.Mathlib.Nat.{pow-succ', eq-zero-or-pos, lt-of-le-of-lt}
 use native.Mathlib.Omega.{arith}
 use lib.Count.{ones, onesIn, trailingZeros, ones-step}
 use lib.Dec.{eqb, lit<}
+use lib.Pow.{pow-pos}
 use borrow.Author.Tests.{leb-true, eqb-true, le-leb, eq-eqb}
 use Rattle.torus.proofs.Tests.{both}
 use Rattle.ring.specs.Polynomial.{Degree, isDegree}
@@ -55,3 +56,6 @@ one-set (suc k) x h e =
 -- "a power of two from 1 to 1,024"
 pub degree-power : (N : ℕ) → Degree N → N ≡ 2 ^ trailingZeros 64 N
 degree-power N ok = one-set 64 N (lt-of-le-of-lt (ok .most) (lit< tt)) (ok .power)
+
+pub degree-pos : (N : ℕ) → Degree N → 0 < N
+degree-pos N ok = omega (arith, degree-power N ok, pow-pos (trailingZeros 64 N))

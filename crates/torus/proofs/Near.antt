@@ -3,7 +3,7 @@
 -- Assumes nothing.
 use mathlib.Core.Path.{_≡_, refl, ap, sym, _∙_, subst}
 use Prim.Native.Nat.{ℕ, zero, suc, _+_, _-_, _*_, _/_, _%_, _^_, _≤_, _<_}
-use native.Mathlib.Nat.{mul-le-mul, le-refl, le-trans, le-of-eq, zero-add, add-comm, mul-zero, one-mul, mod-add-div', add-mul-mod-self-right}
+use native.Mathlib.Nat.{mul-le-mul, le-refl, le-trans, le-of-eq, zero-add, add-zero, add-comm, mul-zero, one-mul, mod-add-div', add-mul-mod-self-right}
 use native.Mathlib.Omega.{arith}
 use Rattle.torus.specs.Sum.{sum}
 use Rattle.torus.specs.Word.{sub}
@@ -77,6 +77,9 @@ module _ {Q : ℕ} where
 
   pub congruent-trans : {A x y w : ℕ} → Near Q 0 x y → Near Q A y w → Near Q A x w
   congruent-trans {A} h k = near-weaken (le-of-eq (zero-add A)) (near-trans h k)
+
+  pub near-congruent : {A x y w : ℕ} → Near Q A x y → Near Q 0 y w → Near Q A x w
+  near-congruent {A} h k = near-weaken (le-of-eq (add-zero A)) (near-trans h k)
 
   pub congruent-add : {x y x′ y′ : ℕ} → Near Q 0 x y → Near Q 0 x′ y′ → Near Q 0 (x + x′) (y + y′)
   congruent-add h k = near-weaken (le-refl 0) (near-add h k)

@@ -52,3 +52,7 @@ pub summed-more : (n : ℕ) (f : ℕ → ℕ) (total v : ℕ) → total ≡ sum 
 unfolding sum
 summed-more n f total v e h = rw (add-one n)
     (ap₂ (λ x y. (x + y) % 2 ^ 32) e h ∙ mod-add-mod (sum n f) (2 ^ 32) _ ∙ add-mod-mod (sum n f) (f n) (2 ^ 32))
+
+-- Numbers added to a word one after the other, as words.
+pub add-add : (o s p : ℕ) → ((o + s % 2 ^ 32) % 2 ^ 32 + p) % 2 ^ 32 ≡ (o + (s + p) % 2 ^ 32) % 2 ^ 32
+add-add o s p = omega arith

@@ -2,6 +2,7 @@
 ghost use mathlib.Core.Path.{_≡_};
 ghost use Prim.Native.Nat.{_+_, _*_, _≤_, _<_};
 ghost use lib.ListN.{length, getD, set, replicate};
+ghost use Rattle.torus.specs.Sum.{tabulate};
 ghost use Rattle.torus.specs.Word as W;
 ghost use Rattle.torus.specs.Bytes.{words};
 
@@ -90,6 +91,20 @@ pub fn clear_words(out: &mut [u8], n: usize)
     let mut i = 0;
     while i < n {
         put_word(out, i, 0);
+        i += 1;
+    }
+}
+
+// From each of the n words of out, the word of a is taken away.
+pub fn sub_words(out: &mut [u8], a: &[u8], n: usize)
+    requires { ⌜ (length (now out) ≡ 4 * n) × (length (now a) ≡ 4 * n) ⌝ }
+    ensures { λ _. ⌜ words (now (out .exit))
+        ≡ tabulate n (λ i. W.sub (getD (words (now (out .entry))) i 0) (getD (words (now (a .entry))) i 0)) ⌝ }
+{
+    let mut i = 0;
+    while i < n {
+        let w = word_at(out, i);
+        put_word(out, i, sub(w, word_at(a, i)));
         i += 1;
     }
 }

@@ -13,6 +13,7 @@ use lib.Seq.{ext-getD, getD-take, getD-drop}
 use Rattle.torus.specs.Sum.{sum, tabulate}
 use Rattle.torus.specs.Word.{add, sub, magnitude}
 use Rattle.torus.specs.Bytes.{words}
+use Rattle.torus.proofs.Sums.{add-add}
 use Rattle.torus.proofs.Lists.{filled, length-filled, filled-before, filled-later, length-tabulate, tabulate-at, tabulate-cong, tabulate-self}
 use Rattle.torus.proofs.Magnitudes.{magnitude-low}
 use Rattle.torus.proofs.Parts.{words-lent}
@@ -36,10 +37,6 @@ key-small N k c p q K key lc ep eq i l =
     let inside : c * N + i < k * N = digits-lt lc l in
     let bit : getD (words K) (c * N + i) 0 ≤ 1 = key .bits (c * N + i) inside in
     rw (part-lent N c p q K ep eq i l) (omega (arith, magnitude-low (getD (words K) (c * N + i) 0) (omega arith)))
-
--- Numbers added to a word one after the other, as words.
-add-add : (o s p : ℕ) → ((o + s % 2 ^ 32) % 2 ^ 32 + p) % 2 ^ 32 ≡ (o + (s + p) % 2 ^ 32) % 2 ^ 32
-add-add o s p = omega arith
 
 -- a·K over the first c masks, added to o.
 abbrev pub Added : (N : ℕ) (K a : List ℕ) → ℕ → List ℕ → List ℕ → Type 0

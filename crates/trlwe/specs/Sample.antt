@@ -6,7 +6,7 @@ use mathlib.Core.Path.{_≡_}
 use mathlib.Core.List.{List, _++_}
 use Prim.Native.Nat.{ℕ, _+_, _*_, _%_, _^_, _≤_, _<_}
 use lib.ListN.{length, getD, replicate}
-use Rattle.torus.specs.Sum.{sum, tabulate}
+use Rattle.torus.specs.Sum.{sum, tabulate, joined}
 use Rattle.torus.specs.Word.{sub}
 use Rattle.torus.specs.Bytes.{words}
 use Rattle.ring.specs.Polynomial.{Degree, coefficients, product}
@@ -15,6 +15,10 @@ use Rattle.trlwe.specs.Classes.{decode}
 -- Polynomial c of a list of polynomials of N words each: mask c of a sample, and its body where c is k; polynomial c of a key.
 abbrev pub part : (N : ℕ) (l : List ℕ) (c i : ℕ) → ℕ
 part N l c i = getD l (c * N + i) 0
+
+-- The list of n polynomials of N words each whose polynomial c has the coefficients f c.
+unfoldable pub polynomials : (N n : ℕ) (f : ℕ → ℕ → ℕ) → List ℕ
+polynomials N n f = joined n (λ c. tabulate N (f c))
 
 -- a·K, coefficient i, as a word: the masks times the key's polynomials, added up.
 unfoldable pub masked : (N k : ℕ) (key a : List ℕ) (i : ℕ) → ℕ

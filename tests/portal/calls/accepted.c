@@ -6,21 +6,45 @@
 static void accept_numbers(const struct call *call, struct numbers n)
 {
     struct arguments a = {0};
-    at("lawful: %s with N=%" PRIu64 " M=%" PRIu64 " s=%" PRIu64 " p=%" PRIu64, call->name, n.N, n.M, n.s, n.p);
-    lawful(&a, call, n, n.N + n.M);
+    at("lawful: %s with N = %" PRIu64, call->name, n.N);
+    lawful(&a, call, n, n.N + n.M + n.m);
     accept(&a);
     free_arguments(&a);
+}
+
+static void accept_classes(const struct call *call, uint64_t N)
+{
+    for (uint64_t M = 2; M <= 65536; M *= 2)
+        for (uint64_t part = 0; part < 3; part++) {
+            struct numbers n = usual(N);
+            n.M = M;
+            /* The first, a middle and the last value of s and of p. */
+            n.s = part == 0 ? 1 : part == 1 ? (N + 1) / 2 : N;
+            n.p = part * (N - 1) / 2;
+            if (N <= 64 || M == 16 || M == 65536)
+                accept_numbers(call, n);
+        }
+}
+
+/* The least and the greatest g and L among them, and products g*L of 32 and below. */
+static void accept_blocks(const struct call *call, uint64_t N)
+{
+    const struct gadget gadgets[] = {{8, 2}, {16, 2}, {1, 32}, {1, 1}, {16, 1}, {7, 3}, {4, 8}, {2, 15}};
+    for (size_t i = 0; i < sizeof gadgets / sizeof gadgets[0]; i++) {
+        struct numbers n = usual(N);
+        n.g = gadgets[i].g;
+        n.L = gadgets[i].L;
+        n.m = i % 2;
+        accept_numbers(call, n);
+    }
 }
 
 void test_accepted(void)
 {
     for (size_t c = 0; all_calls[c]; c++)
         for (uint64_t N = 1; N <= 1024; N *= 2)
-            for (uint64_t M = 2; M <= 65536; M *= 2)
-                for (uint64_t part = 0; part < 3; part++) {
-                    /* The first, a middle and the last value of s and of p. */
-                    struct numbers n = {N, M, part == 0 ? 1 : part == 1 ? (N + 1) / 2 : N, part * (N - 1) / 2};
-                    if (N <= 64 || (M == 16 || M == 65536))
-                        accept_numbers(all_calls[c], n);
-                }
+            if (can_refuse(all_calls[c], 2))
+                accept_blocks(all_calls[c], N);
+            else
+                accept_classes(all_calls[c], N);
 }

@@ -38,7 +38,7 @@ static void read_back(struct arguments *encrypted, struct numbers n, uint32_t cl
 static void test_class(uint64_t N, uint64_t M, uint32_t class_number)
 {
     struct arguments a = {0};
-    struct numbers n = {N, M, N, 0};
+    struct numbers n = {.N = N, .M = M, .s = N};
     at("class %" PRIu32 " of %" PRIu64 " in all %" PRIu64 " coefficients", class_number, M, N);
     lawful(&a, &encrypt_classes, n, N);
     for (uint64_t i = 0; i < N; i++)
@@ -53,7 +53,7 @@ static void test_bare(uint64_t M)
 {
     struct arguments a = {0};
     at("class %" PRIu64 " of %" PRIu64 " is the word 2147483648", M / 2, M);
-    lawful(&a, &encrypt_classes, (struct numbers){1, M, 1, 0}, 1);
+    lawful(&a, &encrypt_classes, (struct numbers){.N = 1, .M = M, .s = 1}, 1);
     put_word(slice_of(&a, KEY), 0, 0);
     put_word(slice_of(&a, MASK), 0, 0);
     put_word(slice_of(&a, ERRORS), 0, 0);
@@ -70,7 +70,7 @@ static void test_decryption(const struct call *call, enum kind lent, enum kind w
 {
     struct arguments a = {0};
     const uint32_t key = 1;
-    lawful(&a, call, (struct numbers){1, M, 1, 0}, 1);
+    lawful(&a, call, (struct numbers){.N = 1, .M = M, .s = 1}, 1);
     set_words(slice_of(&a, KEY), &key, 1);
     set_words(slice_of(&a, lent), sample, 2);
     make_call(&a, (struct answer){0, 0, 0});

@@ -1,17 +1,8 @@
-/* Worked examples, every word written out: cases i to l of the exercise table, and one small sample. */
+/* Worked examples of samples, every word written out: cases i to l of the exercise table, and one small sample. */
 #include "calls.h"
 
 #include <inttypes.h>
 #include <string.h>
-
-static void check_words(const struct arguments *a, const uint32_t *want, size_t count)
-{
-    const struct bytes *written = &a->slice[a->call->slices - 1];
-    check_call(a, words_in(written) == count, "%zu words are written, not %zu", words_in(written), count);
-    for (size_t i = 0; i < count && i < words_in(written); i++)
-        check_call(a, word_at(written, i) == want[i], "word %zu is %" PRIu32 ", not %" PRIu32, i,
-                   word_at(written, i), want[i]);
-}
 
 /* A phase is shown to both decryptions as the body of a trivial sample, whose mask is 0. */
 static void decodes(const char *name, uint64_t M, uint32_t phase, uint32_t want)
@@ -20,16 +11,16 @@ static void decodes(const char *name, uint64_t M, uint32_t phase, uint32_t want)
     uint32_t trivial[2] = {0, phase};
     at("case %s: M = %" PRIu64 ", phase %" PRIu32 " decodes to %" PRIu32, name, M, phase, want);
     for (uint32_t key = 0; key < 2; key++) {
-        lawful(&a, &decrypt_classes, (struct numbers){1, M, 1, 0}, 1);
+        lawful(&a, &decrypt_classes, (struct numbers){.N = 1, .M = M, .s = 1}, 1);
         set_words(slice_of(&a, KEY), &key, 1);
         set_words(slice_of(&a, SAMPLE), trivial, 2);
         make_call(&a, (struct answer){0, 0, 0});
-        check_words(&a, &want, 1);
-        lawful(&a, &decrypt_scalar, (struct numbers){1, M, 0, 0}, 1);
+        check_written(&a, &want, 1);
+        lawful(&a, &decrypt_scalar, (struct numbers){.N = 1, .M = M}, 1);
         set_words(slice_of(&a, KEY), &key, 1);
         set_words(slice_of(&a, SCALAR), trivial, 2);
         make_call(&a, (struct answer){0, 0, 0});
-        check_words(&a, &want, 1);
+        check_written(&a, &want, 1);
     }
     free_arguments(&a);
 }
@@ -38,10 +29,10 @@ static void extracts(const char *name, const uint32_t *sample, uint64_t p, const
 {
     struct arguments a = {0};
     at("%s: position %" PRIu64, name, p);
-    lawful(&a, &extract, (struct numbers){2, 0, 0, p}, 1);
+    lawful(&a, &extract, (struct numbers){.N = 2, .p = p}, 1);
     set_words(slice_of(&a, SAMPLE), sample, 4);
     make_call(&a, (struct answer){0, 0, 0});
-    check_words(&a, want, 3);
+    check_written(&a, want, 3);
     free_arguments(&a);
 }
 
@@ -58,14 +49,14 @@ static void encrypts_and_decrypts(void)
     const uint8_t classes[8] = {3, 0, 0, 0, 8, 0, 0, 0};
     const uint8_t sample[16] = {5, 0, 0, 0, 7, 0, 0, 0, 0xFF, 0xFF, 0xFF, 0x2F, 8, 0, 0, 0x80};
     at("a small sample, byte for byte");
-    lawful(&a, &encrypt_classes, (struct numbers){2, 16, 2, 0}, 1);
+    lawful(&a, &encrypt_classes, (struct numbers){.N = 2, .M = 16, .s = 2}, 1);
     set_bytes(slice_of(&a, KEY), key, 8);
     set_bytes(slice_of(&a, MASK), mask, 8);
     set_bytes(slice_of(&a, ERRORS), errors, 8);
     set_bytes(slice_of(&a, CLASSES), classes, 8);
     make_call(&a, (struct answer){0, 4, 0});
     check_call(&a, memcmp(slice_of(&a, SAMPLE)->at, sample, 16) == 0, "the sample has other bytes");
-    lawful(&a, &decrypt_classes, (struct numbers){2, 16, 2, 0}, 1);
+    lawful(&a, &decrypt_classes, (struct numbers){.N = 2, .M = 16, .s = 2}, 1);
     set_bytes(slice_of(&a, KEY), key, 8);
     set_bytes(slice_of(&a, SAMPLE), sample, 16);
     make_call(&a, (struct answer){0, 0, 0});
@@ -78,7 +69,7 @@ static void bound_is_greatest(void)
 {
     struct arguments a = {0};
     const uint32_t errors[4] = {3, (uint32_t)-7, 5, 0};
-    lawful(&a, &encrypt_classes, (struct numbers){4, 16, 2, 0}, 1);
+    lawful(&a, &encrypt_classes, (struct numbers){.N = 4, .M = 16, .s = 2}, 1);
     for (size_t turn = 0; turn < 4; turn++) {
         at("errors 3, -7, 5, 0 turned by %zu", turn);
         for (size_t i = 0; i < 4; i++)

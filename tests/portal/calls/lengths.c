@@ -7,7 +7,7 @@
 static void test_length(const struct call *call, uint64_t N, size_t k, size_t length)
 {
     struct arguments a = {0};
-    lawful(&a, call, (struct numbers){N, 16, (N + 1) / 2, N / 2}, N);
+    lawful(&a, call, usual(N), N);
     at("%s, N = %" PRIu64 ": slice %zu of %zu bytes has %zu", call->name, N, k, a.slice[k].length, length);
     if (length != a.slice[k].length) {
         set_length(&a.slice[k], length);
@@ -19,7 +19,7 @@ static void test_length(const struct call *call, uint64_t N, size_t k, size_t le
 static void test_slice(const struct call *call, uint64_t N, size_t k)
 {
     struct arguments a = {0};
-    lawful(&a, call, (struct numbers){N, 16, (N + 1) / 2, N / 2}, N);
+    lawful(&a, call, usual(N), N);
     size_t exact = a.slice[k].length;
     /* 0, the number of words, half and twice; then up to two words short and long, to the byte. */
     const size_t lengths[] = {0, exact / 4, exact / 2, 2 * exact, 4 * exact};
@@ -38,7 +38,7 @@ static void test_moved_word(const struct call *call, size_t from, size_t to)
 {
     struct arguments a = {0};
     at("%s: a word moved from slice %zu to slice %zu", call->name, from, to);
-    lawful(&a, call, (struct numbers){8, 16, 5, 3}, 3);
+    lawful(&a, call, usual(8), 3);
     set_length(&a.slice[from], a.slice[from].length - 4);
     set_length(&a.slice[to], a.slice[to].length + 4);
     refuse(&a, 5);
@@ -50,7 +50,7 @@ static void test_long_slice(const struct call *call, size_t k)
 {
     struct arguments a = {0};
     at("%s: slice %zu is 4 GiB too long", call->name, k);
-    lawful(&a, call, (struct numbers){8, 16, 5, 3}, 3);
+    lawful(&a, call, usual(8), 3);
     a.slice[k].beyond = (size_t)1 << 32;
     refuse(&a, 5);
     free_arguments(&a);

@@ -13,12 +13,17 @@ int main(void)
 {
     start("calls");
     test_examples();
+    test_block_examples();
     test_accepted();
     test_refusals();
     test_numbers();
+    test_gadgets();
+    test_amplitudes();
     test_lengths();
     test_words();
+    test_extremes();
     test_errors();
     test_classes();
+    test_stack();
     return finish();
 }

@@ -15,18 +15,28 @@ static int is_power(uint64_t v, uint64_t least, uint64_t most)
     return v == power;
 }
 
-/* What must be returned when this number alone is changed. */
-static uint32_t answer_for(char letter, uint64_t v, uint64_t N)
+/* What must be returned with these numbers, of which this one alone may be unlawful. */
+static uint32_t answer_for(struct numbers n, char letter)
 {
     switch (letter) {
     case 'N':
-        return is_power(v, 1, 1024) ? 0 : 1;
+        return is_power(n.N, 1, 1024) ? 0 : 1;
+    case 'g':
+    case 'L':
+        return lawful_gadget((struct gadget){n.g, n.L}) ? 0 : 2;
     case 'M':
-        return is_power(v, 2, 65536) ? 0 : 3;
+        return is_power(n.M, 2, 65536) ? 0 : 3;
     case 's':
-        return v >= 1 && v <= N ? 0 : 4;
+        return n.s >= 1 && n.s <= n.N ? 0 : 4;
     case 'p':
-        return v < N ? 0 : 4;
+        return n.p < n.N ? 0 : 4;
+    case 'A':
+    case 'B':
+    case '0':
+    case '1':
+        return *value_of(&n, letter) <= UINT64_C(0x80000000) ? 0 : 6;
+    case 'm':
+        return n.m <= 1 ? 0 : 7;
     }
     need(0, "a rule for every number");
     return 0;
@@ -42,20 +52,19 @@ static void empty_slices(struct arguments *a)
 static void test_value(const struct call *call, char letter, uint64_t N, uint64_t v)
 {
     struct arguments a = {0};
-    struct numbers n = {N, 16, 1, 0};
-    uint32_t want = answer_for(letter, v, N);
+    struct numbers n = usual(1);
     at("%s: %c = %" PRIu64 " beside N = %" PRIu64, call->name, letter, v, N);
-    n.N = letter == 'N' ? v : n.N;
-    n.M = letter == 'M' ? v : n.M;
-    n.s = letter == 's' ? v : n.s;
-    n.p = letter == 'p' ? v : n.p;
+    n.N = N;
+    *value_of(&n, letter) = v;
+    uint32_t want = answer_for(n, letter);
     lawful(&a, call, n, v);
     if (want == 0) {
         accept(&a);
     } else {
         refuse(&a, want);
         empty_slices(&a);
-        refuse(&a, want);
+        /* Empty slices are a fault of their own, judged before amplitudes and bits. */
+        refuse(&a, want < 5 ? want : 5);
     }
     free_arguments(&a);
 }
@@ -64,11 +73,13 @@ static void test_value(const struct call *call, char letter, uint64_t N, uint64_
 static void test_beside_lawful(const struct call *call, char letter, uint64_t v)
 {
     struct arguments a = {0};
-    uint32_t want = answer_for(letter, v, 8);
+    struct numbers n = usual(8);
+    *value_of(&n, letter) = v;
+    uint32_t want = answer_for(n, letter);
     if (want == 0)
         return;
     at("%s: %c = %" PRIu64 ", all else as for a lawful one", call->name, letter, v);
-    lawful(&a, call, (struct numbers){8, 16, 5, 3}, v);
+    lawful(&a, call, usual(8), v);
     *number_of(&a, letter) = v;
     refuse(&a, want);
     free_arguments(&a);

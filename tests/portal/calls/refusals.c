@@ -6,35 +6,45 @@
 
 #include <inttypes.h>
 
-enum { FIRST, LAST };
-
-/* A fault by its refusal. `what` is a number's letter, or the kind of a slice whose word is bad. */
+/*
+ * A fault by its refusal. `what` is the letter of a bad number; the place of a slice with `value` bytes too many
+ * (in 64 bits, so also too few); or the kind of a slice whose first or last word is bad.
+ */
 struct fault {
     uint32_t refusal;
+    enum { NUMBER, LENGTH, FIRST_WORD, LAST_WORD } sort;
     int what;
     uint64_t value;
-    int place; /* of a bad word: the first or the last one */
 };
 
-/* In the order in which they are put in: numbers, then lengths that fit them, then words. */
+/* In rising number, the order in which they are put in: a length goes by the numbers that are judged before it. */
 static const struct fault faults[] = {
-    {1, 'N', 0, 0}, {1, 'N', 3, 0}, {1, 'N', 6, 0}, {1, 'N', 2048, 0},
-    {3, 'M', 0, 0}, {3, 'M', 1, 0}, {3, 'M', 24, 0}, {3, 'M', 131072, 0},
-    {4, 's', 0, 0}, {4, 's', 9, 0}, {4, 's', 3000, 0}, {4, 'p', 8, 0}, {4, 'p', 9, 0}, {4, 'p', 3000, 0},
-    /* A length: `what` is the slice, `value` its bytes too many (in 64 bits, so also too few). */
-    {5, 0, 1, 0}, {5, 0, (uint64_t)-1, 0}, {5, 1, 4, 0}, {5, 1, (uint64_t)-1, 0}, {5, 2, 1, 0}, {5, 2, (uint64_t)-4, 0},
-    {5, 3, 4, 0}, {5, 3, (uint64_t)-4, 0}, {5, 4, 1, 0}, {5, 4, (uint64_t)-4, 0},
-    {7, CLASSES, 16, FIRST}, {7, CLASSES, 17, LAST}, {7, CLASSES, UINT32_MAX, LAST},
-    {8, KEY, 2, FIRST}, {8, KEY, 2, LAST}, {8, KEY, UINT32_MAX, LAST},
-    {9, ERRORS, 134217728, FIRST}, {9, ERRORS, UINT32_C(4160749568), LAST}, {9, ERRORS, UINT32_C(2147483648), LAST},
+    {1, NUMBER, 'N', 0}, {1, NUMBER, 'N', 3}, {1, NUMBER, 'N', 6}, {1, NUMBER, 'N', 2048},
+    {2, NUMBER, 'g', 0}, {2, NUMBER, 'g', 11}, {2, NUMBER, 'g', 17}, {2, NUMBER, 'g', UINT64_C(4294967303)},
+    {2, NUMBER, 'L', 0}, {2, NUMBER, 'L', 5}, {2, NUMBER, 'L', 33}, {2, NUMBER, 'L', UINT64_C(4294967299)},
+    {3, NUMBER, 'M', 0}, {3, NUMBER, 'M', 1}, {3, NUMBER, 'M', 24}, {3, NUMBER, 'M', 131072},
+    {4, NUMBER, 's', 0}, {4, NUMBER, 's', 9}, {4, NUMBER, 's', 3000},
+    {4, NUMBER, 'p', 8}, {4, NUMBER, 'p', 9}, {4, NUMBER, 'p', 3000},
+    {5, LENGTH, 0, 1}, {5, LENGTH, 0, (uint64_t)-1}, {5, LENGTH, 1, 4}, {5, LENGTH, 1, (uint64_t)-1},
+    {5, LENGTH, 2, 1}, {5, LENGTH, 2, (uint64_t)-4}, {5, LENGTH, 3, 4}, {5, LENGTH, 3, (uint64_t)-4},
+    {5, LENGTH, 4, 1}, {5, LENGTH, 4, (uint64_t)-4},
+    {6, NUMBER, 'A', UINT64_C(2147483649)}, {6, NUMBER, 'A', UINT64_C(4294967296)},
+    {6, NUMBER, 'B', UINT64_C(2147483649)}, {6, NUMBER, 'B', UINT64_MAX},
+    {6, NUMBER, '0', UINT64_C(2147483649)}, {6, NUMBER, '0', UINT64_C(4294967297)},
+    {6, NUMBER, '1', UINT64_C(2147483649)}, {6, NUMBER, '1', UINT64_C(9223372036854775808)},
+    {7, FIRST_WORD, CLASSES, 16}, {7, LAST_WORD, CLASSES, 17}, {7, LAST_WORD, CLASSES, UINT32_MAX},
+    {7, NUMBER, 'm', 2}, {7, NUMBER, 'm', UINT64_C(4294967296)}, {7, NUMBER, 'm', UINT64_C(4294967297)},
+    {8, FIRST_WORD, KEY, 2}, {8, LAST_WORD, KEY, 2}, {8, LAST_WORD, KEY, UINT32_MAX},
+    {9, FIRST_WORD, ERRORS, 134217728}, {9, LAST_WORD, ERRORS, UINT32_C(4160749568)},
+    {9, LAST_WORD, ERRORS, UINT32_C(2147483648)},
 };
 
 enum { FAULTS = sizeof faults / sizeof faults[0] };
 
-/* N = 8, M = 16: the error limit is 134217728. */
+/* N = 8, M = 16: the error limit is 134217728. g = 7, L = 3: g is lawful up to 10, L up to 4. */
 static void start_lawful(struct arguments *a, const struct call *call)
 {
-    lawful(a, call, (struct numbers){8, 16, 5, 3}, 7);
+    lawful(a, call, usual(8), 7);
 }
 
 static int put_number_fault(struct arguments *a, const struct fault *f)
@@ -43,7 +53,9 @@ static int put_number_fault(struct arguments *a, const struct fault *f)
     if (!number)
         return 0;
     *number = f->value;
-    fit(a);
+    /* Numbers that are judged after the lengths have none to fit, and a bad length stays. */
+    if (f->refusal < 5)
+        fit(a);
     return 1;
 }
 
@@ -65,16 +77,16 @@ static int put_word_fault(struct arguments *a, const struct fault *f)
         return 0;
     /* No place for a bad word: another fault has left no words. */
     if (words_in(b))
-        put_word(b, f->place == FIRST ? 0 : words_in(b) - 1, (uint32_t)f->value);
+        put_word(b, f->sort == FIRST_WORD ? 0 : words_in(b) - 1, (uint32_t)f->value);
     return 1;
 }
 
 /* Whether the call can have this fault at all. */
 static int put_fault(struct arguments *a, const struct fault *f)
 {
-    if (f->refusal < 5)
+    if (f->sort == NUMBER)
         return put_number_fault(a, f);
-    return f->refusal == 5 ? put_length_fault(a, f) : put_word_fault(a, f);
+    return f->sort == LENGTH ? put_length_fault(a, f) : put_word_fault(a, f);
 }
 
 static uint64_t bound_of(const struct fault *f)

@@ -12,7 +12,7 @@ static const uint32_t bad_key_words[] = {
 static void test_key(const struct call *call, uint64_t N, uint64_t place)
 {
     struct arguments a = {0};
-    lawful(&a, call, (struct numbers){N, 16, 1, 0}, place);
+    lawful(&a, call, usual(N), place);
     for (size_t i = 0; i < sizeof bad_key_words / sizeof bad_key_words[0]; i++) {
         at("%s, N = %" PRIu64 ": key word %" PRIu64 " is %" PRIu32, call->name, N, place, bad_key_words[i]);
         put_word(slice_of(&a, KEY), place, bad_key_words[i]);
@@ -36,7 +36,7 @@ static void test_class(uint64_t N, uint64_t M, uint64_t s, uint64_t place)
     struct arguments a = {0};
     const uint32_t bad[] = {(uint32_t)M, (uint32_t)M + 1, (uint32_t)M * 2, (uint32_t)M + 65536, (uint32_t)M << 8,
                             16777216, UINT32_C(2147483648), UINT32_MAX};
-    lawful(&a, &encrypt_classes, (struct numbers){N, M, s, 0}, place);
+    lawful(&a, &encrypt_classes, (struct numbers){.N = N, .M = M, .s = s}, place);
     for (size_t i = 0; i < sizeof bad / sizeof bad[0]; i++) {
         at("class %" PRIu64 " of %" PRIu64 " is %" PRIu32 ", M = %" PRIu64, place, s, bad[i], M);
         put_word(slice_of(&a, CLASSES), place, bad[i]);

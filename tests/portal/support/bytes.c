@@ -47,3 +47,10 @@ void set_words(struct bytes *b, const uint32_t *words, size_t count)
     for (size_t i = 0; i < count; i++)
         put_word(b, i, words[i]);
 }
+
+void read_words(uint32_t *words, size_t room, const struct bytes *b)
+{
+    need(b != NULL && words_in(b) <= room, "room for the words of a slice");
+    for (size_t i = 0; i < words_in(b); i++)
+        words[i] = word_at(b, i);
+}

@@ -3,14 +3,6 @@
 
 #include <string.h>
 
-uint64_t next_random(uint64_t *state)
-{
-    uint64_t z = *state += UINT64_C(0x9E3779B97F4A7C15);
-    z = (z ^ z >> 30) * UINT64_C(0xBF58476D1CE4E5B9);
-    z = (z ^ z >> 27) * UINT64_C(0x94D049BB133111EB);
-    return z ^ z >> 31;
-}
-
 uint64_t *number_of(struct arguments *a, char letter)
 {
     const char *found = strchr(a->call->numbers, letter);
@@ -25,6 +17,30 @@ struct bytes *slice_of(struct arguments *a, enum kind kind)
     return NULL;
 }
 
+uint64_t *value_of(struct numbers *n, char letter)
+{
+    const struct {
+        char letter;
+        uint64_t *value;
+    } values[] = {
+        {'N', &n->N}, {'M', &n->M}, {'s', &n->s}, {'p', &n->p}, {'g', &n->g}, {'L', &n->L},
+        {'m', &n->m}, {'A', &n->A}, {'B', &n->B}, {'0', &n->A0}, {'1', &n->A1},
+    };
+    for (size_t i = 0; i < sizeof values / sizeof values[0]; i++)
+        if (values[i].letter == letter)
+            return values[i].value;
+    need(0, "a value for every letter");
+    return NULL;
+}
+
+/* g*L is below 32, so that digits are rounded; the amplitudes differ, so that none passes for another. */
+struct numbers usual(uint64_t N)
+{
+    return (struct numbers){
+        .N = N, .M = 16, .s = (N + 1) / 2, .p = N / 2, .g = 7, .L = 3, .m = 1, .A = 5, .B = 900, .A0 = 1000, .A1 = 2000,
+    };
+}
+
 /* The number with this letter as a count of words; 0 if the call takes none. */
 static size_t count_of(struct arguments *a, char letter)
 {
@@ -34,7 +50,7 @@ static size_t count_of(struct arguments *a, char letter)
 
 static size_t exact_words(struct arguments *a, enum kind kind)
 {
-    size_t N = count_of(a, 'N');
+    size_t N = count_of(a, 'N'), L = count_of(a, 'L');
     switch (kind) {
     case KEY:
     case MASK:
@@ -43,11 +59,18 @@ static size_t exact_words(struct arguments *a, enum kind kind)
     case CLASSES:
         return count_of(a, 's');
     case SAMPLE:
+    case SAMPLE1:
+    case RESULT:
         return 2 * N;
     case SCALAR:
         return N + 1;
     case CLASS_WORD:
         return 1;
+    case ROW_MASKS:
+    case ROW_ERRORS:
+        return 2 * L * N;
+    case BLOCK:
+        return 4 * L * N;
     }
     return 0;
 }
@@ -58,7 +81,7 @@ void fit(struct arguments *a)
         set_length(&a->slice[k], 4 * exact_words(a, a->call->kind[k]));
 }
 
-/* A lawful word: an error is small enough for every M, a class is below M. */
+/* A lawful word: a sample's error is small enough for every M, a class is below M. */
 static uint32_t lawful_word(enum kind kind, uint64_t M, uint64_t *state)
 {
     uint64_t random = next_random(state);
@@ -74,20 +97,11 @@ static uint32_t lawful_word(enum kind kind, uint64_t M, uint64_t *state)
     }
 }
 
-static void put_number(struct arguments *a, char letter, uint64_t value)
-{
-    uint64_t *number = number_of(a, letter);
-    if (number)
-        *number = value;
-}
-
 void lawful(struct arguments *a, const struct call *call, struct numbers n, uint64_t seed)
 {
     a->call = call;
-    put_number(a, 'N', n.N);
-    put_number(a, 'M', n.M);
-    put_number(a, 's', n.s);
-    put_number(a, 'p', n.p);
+    for (size_t i = 0; call->numbers[i]; i++)
+        a->number[i] = *value_of(&n, call->numbers[i]);
     fit(a);
     for (size_t k = 0; k < call->slices; k++) {
         /* What stands in a slice to be written is arbitrary: it must not matter. */

@@ -5,8 +5,11 @@
  *   bytes.c     slices to be lent, as bytes and as words
  *   guarded.c   the one place where a call is made: every slice between guards, everything checked
  *   report.c    checks, and what is printed of those that fail
+ *   random.c    random numbers, and words chosen at random or as an extreme
  *   lawful.c    lawful arguments for a call
- *   plain.c     the formulas of the scheme, and what an accepted call must report and write
+ *   plain.c     the formulas of samples and classes
+ *   block.c     the formulas of digits, blocks and the CMux
+ *   accept.c    what an accepted call must report and write, by these formulas
  */
 #ifndef PORTAL_H
 #define PORTAL_H
@@ -19,7 +22,10 @@ enum { MAX_NUMBERS = 8, MAX_SLICES = 8, MAX_REFUSALS = 16 };
 /* ---- table.c ---- */
 
 /* What a slice holds; its exact length follows from it and the numbers. */
-enum kind { KEY, MASK, ERRORS, CLASSES, SAMPLE, SCALAR, CLASS_WORD };
+enum kind {
+    KEY, MASK, ERRORS, CLASSES, SAMPLE, SCALAR, CLASS_WORD,
+    ROW_MASKS, ROW_ERRORS, BLOCK, SAMPLE1, RESULT
+};
 
 /* A slice as a call gets it. */
 struct lent {
@@ -30,7 +36,7 @@ struct lent {
 /* A call and its sisters. The last `written` of its slices are written, the others only read. */
 struct call {
     const char *name;
-    const char *numbers; /* a letter each, in order */
+    const char *numbers; /* a letter each, in order; struct numbers has them */
     enum kind kind[MAX_SLICES];
     size_t slices, written;
     uint32_t refusals[MAX_REFUSALS]; /* every number it can refuse with, rising, then 0 */
@@ -40,6 +46,7 @@ struct call {
 };
 
 extern const struct call encrypt_classes, decrypt_classes, decrypt_scalar, extract;
+extern const struct call encrypt_selector, external_product, cmux;
 
 /* Every call, then NULL. */
 extern const struct call *const all_calls[];
@@ -62,6 +69,9 @@ void set_bytes(struct bytes *b, const uint8_t *at, size_t length);
 size_t words_in(const struct bytes *b);
 uint32_t word_at(const struct bytes *b, size_t i);
 void put_word(struct bytes *b, size_t i, uint32_t word);
+
+/* All of its words, into an array with room for so many. */
+void read_words(uint32_t *words, size_t room, const struct bytes *b);
 
 /* ---- guarded.c ---- */
 
@@ -109,10 +119,20 @@ int finish(void);
 /* Ends the program if something outside the library is wrong, such as a full memory. */
 void need(int holds, const char *what);
 
-/* ---- lawful.c ---- */
+/* ---- random.c ---- */
 
 /* splitmix64: seeded by the caller, the same on every machine. */
 uint64_t next_random(uint64_t *state);
+
+/* The program's own numbers: their seed, and the next one below `end`. */
+void seed_random(uint64_t seed);
+uint64_t below(uint64_t end);
+
+/* Words with centred readings from -most to most, and a key: at random, or all of them an extreme. */
+void choose_words(uint32_t *words, size_t count, uint64_t most);
+void choose_key(uint32_t *key, size_t N);
+
+/* ---- lawful.c ---- */
 
 /* The number with this letter; NULL if the call takes none. */
 uint64_t *number_of(struct arguments *a, char letter);
@@ -120,10 +140,19 @@ uint64_t *number_of(struct arguments *a, char letter);
 /* The slice of this kind; NULL if the call takes none. */
 struct bytes *slice_of(struct arguments *a, enum kind kind);
 
-/* The values of numbers, whichever of them a call takes. */
+/*
+ * The values of numbers, whichever of them a call takes. A member's name is its letter, but for a CMux's
+ * amplitudes: A0 is '0' and A1 is '1'. Of the other amplitudes A is the block's and B the one sample's.
+ */
 struct numbers {
-    uint64_t N, M, s, p;
+    uint64_t N, M, s, p, g, L, m, A, B, A0, A1;
 };
+
+/* The value with this letter. */
+uint64_t *value_of(struct numbers *n, char letter);
+
+/* Lawful numbers with this degree. Those for degree 1 are lawful with every degree. */
+struct numbers usual(uint64_t N);
 
 /* Arguments that a call accepts, if it accepts the numbers. Empty arguments have call NULL. */
 void lawful(struct arguments *a, const struct call *call, struct numbers n, uint64_t seed);
@@ -137,16 +166,47 @@ void fit(struct arguments *a);
 /* ---- plain.c ---- */
 
 uint32_t magnitude(uint32_t word);
+uint64_t greatest_magnitude(const uint32_t *words, size_t count);
 uint32_t encode(uint32_t class_number, uint64_t M);
 uint32_t decode(uint32_t phase, uint64_t M);
 
 /* Coefficient i of a*k modulo X^N + 1. */
 uint32_t product_at(const uint32_t *a, const uint32_t *k, size_t N, size_t i);
 
+/* Coefficient i of a packed sample's phase. */
+uint32_t phase_at(const uint32_t *sample, const uint32_t *key, size_t N, size_t i);
+
 /* Word j of the scalar sample that position p of a packed sample extracts to. */
 uint32_t extracted_at(const uint32_t *sample, size_t N, size_t p, size_t j);
 
-/* Makes a call that must be accepted; its bound and every word it writes are checked. */
+/* ---- block.c ---- */
+
+/* A gadget: base 2^g, L digits. */
+struct gadget {
+    uint64_t g, L;
+};
+
+int lawful_gadget(struct gadget gadget);
+
+/* h_j. */
+uint32_t step_of(struct gadget gadget, uint64_t j);
+
+/* The charge of a block with this amplitude. */
+uint64_t charge_of(struct gadget gadget, uint64_t N, uint64_t amplitude);
+
+/* The block that encrypts the bit m. */
+void encrypted_block(uint32_t *block, struct gadget gadget, size_t N, uint32_t m, const uint32_t *key,
+                     const uint32_t *masks, const uint32_t *errors);
+
+/* To the sample in out, the external product of the block with a sample. */
+void add_external(uint32_t *out, struct gadget gadget, size_t N, const uint32_t *block, const uint32_t *sample);
+
+/* ---- accept.c ---- */
+
+/* The words that the call wrote, after it. */
+void check_written(const struct arguments *a, const uint32_t *want, size_t count);
+
+/* Makes a call that must be accepted; its bound, its gates and every word it writes are checked. */
 void accept(struct arguments *a);
 
 #endif

@@ -1,4 +1,7 @@
-/* The calls behind one shape of arguments. Another call needs a CALL line, an entry and a place in the list. */
+/*
+ * The calls behind one shape of arguments. Another call needs a CALL line, an entry and a place in the list, and its
+ * formula in accept.c.
+ */
 #include "portal.h"
 
 #include "cikenuma.h"
@@ -24,6 +27,9 @@ CALL(encrypt_classes, number[0], number[1], number[2], SLICE(0), SLICE(1), SLICE
 CALL(decrypt_classes, number[0], number[1], number[2], SLICE(0), SLICE(1), SLICE(2))
 CALL(decrypt_scalar, number[0], number[1], SLICE(0), SLICE(1), SLICE(2))
 CALL(extract, number[0], number[1], SLICE(0), SLICE(1))
+CALL(encrypt_selector, number[0], number[1], number[2], number[3], SLICE(0), SLICE(1), SLICE(2), SLICE(3))
+CALL(external_product, number[0], number[1], number[2], number[3], number[4], SLICE(0), SLICE(1), SLICE(2))
+CALL(cmux, number[0], number[1], number[2], number[3], number[4], number[5], SLICE(0), SLICE(1), SLICE(2), SLICE(3))
 
 const struct call encrypt_classes = {
     "encrypt_classes", "NMs", {KEY, MASK, ERRORS, CLASSES, SAMPLE}, 5, 1, {1, 3, 4, 5, 7, 8, 9, 0},
@@ -45,4 +51,21 @@ const struct call extract = {
     extract_answer, extract_bound, extract_gates,
 };
 
-const struct call *const all_calls[] = {&encrypt_classes, &decrypt_classes, &decrypt_scalar, &extract, NULL};
+const struct call encrypt_selector = {
+    "encrypt_selector", "NgLm", {KEY, ROW_MASKS, ROW_ERRORS, BLOCK}, 4, 1, {1, 2, 5, 7, 8, 0},
+    encrypt_selector_answer, encrypt_selector_bound, encrypt_selector_gates,
+};
+
+const struct call external_product = {
+    "external_product", "NgLAB", {BLOCK, SAMPLE, RESULT}, 3, 1, {1, 2, 5, 6, 0},
+    external_product_answer, external_product_bound, external_product_gates,
+};
+
+const struct call cmux = {
+    "cmux", "NgLA01", {BLOCK, SAMPLE, SAMPLE1, RESULT}, 4, 1, {1, 2, 5, 6, 0},
+    cmux_answer, cmux_bound, cmux_gates,
+};
+
+const struct call *const all_calls[] = {
+    &encrypt_classes, &decrypt_classes, &decrypt_scalar, &extract, &encrypt_selector, &external_product, &cmux, NULL,
+};

@@ -14,11 +14,8 @@ pow2-requires c κs = search needs
 sub-mask : tie.Need-sub-mask
 sub-mask c = omega (arith, pow-pos (c .before .args .g))
 
-sub-pow2 : tie.Need-sub-pow2
-sub-pow2 c = search needs
-
-pow2-requires-2 : tie.Need-pow2-requires-2
-pow2-requires-2 c κs = search needs
+half-requires : tie.Need-half-requires
+half-requires c κs = search needs
 
 sub-requires : tie.Need-sub-requires
 sub-requires c κs = search needs
@@ -28,4 +25,4 @@ returns c = let s = c .before .before .before .args in omega (arith, mask-rem (s
 
 pub low-spec : {M : Type 1} → statement M
 low-spec =
-    tie.close (tie.spec pow2-requires sub-mask sub-pow2 pow2-requires-2 sub-requires returns)
+    tie.close (tie.spec pow2-requires sub-mask half-requires sub-requires returns)

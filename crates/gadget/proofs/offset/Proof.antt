@@ -18,11 +18,8 @@ Inv-loop g l half o₀ j₀ o j = (j ≤ l) × (o ≡ partial g l j)
 abbrev μ-loop : tie.MeasureT-loop
 μ-loop g l half o₀ j₀ o j = l - j
 
-sub-pow2 : tie.Need-sub-pow2 Inv-loop μ-loop
-sub-pow2 c = search needs
-
-pow2-requires : tie.Need-pow2-requires Inv-loop μ-loop
-pow2-requires c κs = search needs
+half-requires : tie.Need-half-requires Inv-loop μ-loop
+half-requires c κs = search needs
 
 precision-requires : tie.Need-precision-requires Inv-loop μ-loop
 precision-requires c κs = search needs
@@ -46,7 +43,7 @@ shl-o c = let s = c .before .before .before .before in omega (arith, base-le (s 
 add-o : tie.Need-add-o Inv-loop μ-loop
 add-o c =
     let s = c .before .before .before .before in
-    record { fits = partial-fits (s .args .g) (s .args .l) (c .before .loop .j) _ _ (s .pre) (search needs) (c .before .before .before .pow2 .ensures) (c .before .loop .inv .1) }
+    record { fits = partial-fits (s .args .g) (s .args .l) (c .before .loop .j) _ _ (s .pre) (search needs) (c .before .before .before .half .ensures) (c .before .loop .inv .1) }
 
 loop-less : tie.Need-loop-less Inv-loop μ-loop
 loop-less c = search needs
@@ -54,7 +51,7 @@ loop-less c = search needs
 loop-again : tie.Need-loop-again Inv-loop μ-loop
 loop-again c =
     let s = c .before .before .before .before in
-    (omega arith, partial-more (s .args .g) (s .args .l) (c .before .loop .j) _ _ (s .pre) (search needs) (c .before .before .before .pow2 .ensures) (c .before .loop .inv .1))
+    (omega arith, partial-more (s .args .g) (s .args .l) (c .before .loop .j) _ _ (s .pre) (search needs) (c .before .before .before .half .ensures) (c .before .loop .inv .1))
 
 returns : tie.Need-returns Inv-loop μ-loop
 unfolding D.offset
@@ -69,8 +66,7 @@ offset-spec =
     (tie.spec
     Inv-loop
     μ-loop
-    sub-pow2
-    pow2-requires
+    half-requires
     precision-requires
     loop-holds
     add-j

@@ -1,0 +1,10 @@
+pub mod Charges
+pub mod Written
+pub mod Accepted
+pub mod Signed
+pub mod Gate
+pub mod Rows
+pub mod Noise
+pub mod Selector
+pub mod CallNoise
+pub mod Instance

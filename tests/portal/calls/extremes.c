@@ -1,0 +1,89 @@
+/*
+ * Words of blocks and of the samples beside them: every word reaches the result as its formula says, and no word
+ * is special.
+ */
+#include "calls.h"
+
+#include <inttypes.h>
+
+static const uint32_t extremes[] = {0, 1, UINT32_C(0x7FFFFFFF), UINT32_C(0x80000000), UINT32_C(0x80000001), UINT32_MAX};
+
+enum { EXTREMES = sizeof extremes / sizeof extremes[0] };
+
+/* The word with every digit the least one, and the one with every digit the greatest. */
+static uint32_t every_digit(struct gadget gadget, int64_t digit)
+{
+    uint32_t word = 0;
+    for (uint64_t j = 1; j <= gadget.L; j++)
+        word += (uint32_t)digit * step_of(gadget, j);
+    return word;
+}
+
+static uint32_t extreme(struct gadget gadget, size_t i)
+{
+    int64_t half = (int64_t)1 << (gadget.g - 1);
+    if (i < EXTREMES)
+        return extremes[i];
+    return every_digit(gadget, i == EXTREMES ? -half : half - 1);
+}
+
+static void fill(struct bytes *b, enum kind kind, uint32_t word)
+{
+    for (size_t i = 0; i < words_in(b); i++)
+        put_word(b, i, kind == KEY ? word & 1 : word);
+}
+
+/* Each slice that is read is all one extreme, in every combination. */
+static void test_combinations(const struct call *call, uint64_t N, struct gadget gadget)
+{
+    struct arguments a = {0};
+    struct numbers n = usual(N);
+    size_t read = call->slices - call->written, choices = EXTREMES + 2, combinations = 1;
+    n.g = gadget.g;
+    n.L = gadget.L;
+    for (size_t k = 0; k < read; k++)
+        combinations *= choices;
+    for (size_t c = 0; c < combinations; c++) {
+        at("%s, N = %" PRIu64 ": slices of one word each, combination %zu", call->name, N, c);
+        n.m = c % 2;
+        lawful(&a, call, n, 1);
+        for (size_t k = 0, rest = c; k < read; k++, rest /= choices)
+            fill(&a.slice[k], call->kind[k], extreme(gadget, rest % choices));
+        accept(&a);
+    }
+    free_arguments(&a);
+}
+
+/* One word of one slice is an extreme, all else is random. */
+static void test_each_word(const struct call *call, struct gadget gadget)
+{
+    struct arguments a = {0};
+    struct numbers n = usual(4);
+    n.g = gadget.g;
+    n.L = gadget.L;
+    for (size_t k = 0; k < call->slices - call->written; k++) {
+        lawful(&a, call, n, k);
+        for (size_t i = 0; i < words_in(&a.slice[k]); i++)
+            for (size_t e = 0; e < EXTREMES + 2; e++) {
+                uint32_t was = word_at(&a.slice[k], i), word = extreme(gadget, e);
+                at("%s: word %zu of slice %zu is %" PRIu32, call->name, i, k, word);
+                put_word(&a.slice[k], i, call->kind[k] == KEY ? word & 1 : word);
+                accept(&a);
+                put_word(&a.slice[k], i, was);
+            }
+    }
+    free_arguments(&a);
+}
+
+void test_extremes(void)
+{
+    const struct gadget gadgets[] = {{8, 2}, {16, 2}, {8, 4}, {1, 32}, {1, 1}, {5, 6}, {16, 1}};
+    for (size_t c = 0; all_calls[c]; c++)
+        if (can_refuse(all_calls[c], 2))
+            for (size_t i = 0; i < sizeof gadgets / sizeof gadgets[0]; i++) {
+                test_combinations(all_calls[c], 1, gadgets[i]);
+                test_combinations(all_calls[c], 4, gadgets[i]);
+                test_each_word(all_calls[c], gadgets[i]);
+            }
+    test_combinations(&external_product, 1024, (struct gadget){16, 2});
+}
