@@ -192,7 +192,7 @@ pub extern "C" fn cikenuma_encrypt_selector(
         × (now (block .exit) ≡ Blocks.encryptSelectorBlock n g l bit
         (now (key .entry)) (now (masks .entry)) (now (errors .entry)) (now (block .entry))) ⌝ }
 {
-    trgsw::encrypt_selector(n, g, l, bit, key, masks, errors, block)
+    trgsw::selector::encrypt_selector(n, g, l, bit, key, masks, errors, block)
 }
 
 #[no_mangle]
@@ -209,7 +209,7 @@ pub extern "C" fn cikenuma_encrypt_selector_bound(
     ensures { λ r. ⌜ r ≡ bound (Blocks.encryptSelector n g l bit
         (now (key .entry)) (now (masks .entry)) (now (errors .entry)) (now (block .entry))) ⌝ }
 {
-    trgsw::encrypt_selector_answer(n, g, l, bit, key, masks, errors, block).bound()
+    trgsw::selector::encrypt_selector_answer(n, g, l, bit, key, masks, errors, block).bound()
 }
 
 #[no_mangle]
@@ -226,7 +226,7 @@ pub extern "C" fn cikenuma_encrypt_selector_gates(
     ensures { λ r. ⌜ r ≡ gates (Blocks.encryptSelector n g l bit
         (now (key .entry)) (now (masks .entry)) (now (errors .entry)) (now (block .entry))) ⌝ }
 {
-    trgsw::encrypt_selector_answer(n, g, l, bit, key, masks, errors, block).gates()
+    trgsw::selector::encrypt_selector_answer(n, g, l, bit, key, masks, errors, block).gates()
 }
 
 #[no_mangle]
@@ -245,7 +245,7 @@ pub extern "C" fn cikenuma_external_product(
         × (now (out .exit) ≡ Blocks.externalProductOut n g l amplitude «sample_amplitude»
         (now (block .entry)) (now (sample .entry)) (now (out .entry))) ⌝ }
 {
-    trgsw::external_product(n, g, l, amplitude, sample_amplitude, block, sample, out)
+    trgsw::external::external_product(n, g, l, amplitude, sample_amplitude, block, sample, out)
 }
 
 #[no_mangle]
@@ -262,7 +262,16 @@ pub extern "C" fn cikenuma_external_product_bound(
     ensures { λ r. ⌜ r ≡ bound (Blocks.externalProduct n g l amplitude «sample_amplitude»
         (now (block .entry)) (now (sample .entry)) (now (out .entry))) ⌝ }
 {
-    trgsw::external_product_answer(n, g, l, amplitude, sample_amplitude, block, sample, out).bound()
+    trgsw::external::external_product_answer(
+        n,
+        g,
+        l,
+        amplitude,
+        sample_amplitude,
+        block,
+        sample,
+        out,
+    ).bound()
 }
 
 #[no_mangle]
@@ -279,7 +288,16 @@ pub extern "C" fn cikenuma_external_product_gates(
     ensures { λ r. ⌜ r ≡ gates (Blocks.externalProduct n g l amplitude «sample_amplitude»
         (now (block .entry)) (now (sample .entry)) (now (out .entry))) ⌝ }
 {
-    trgsw::external_product_answer(n, g, l, amplitude, sample_amplitude, block, sample, out).gates()
+    trgsw::external::external_product_answer(
+        n,
+        g,
+        l,
+        amplitude,
+        sample_amplitude,
+        block,
+        sample,
+        out,
+    ).gates()
 }
 
 #[no_mangle]
@@ -300,7 +318,7 @@ pub extern "C" fn cikenuma_cmux(
         × (now (out .exit) ≡ Blocks.cmuxOut n g l amplitude amplitude0 amplitude1
         (now (block .entry)) (now (sample0 .entry)) (now (sample1 .entry)) (now (out .entry))) ⌝ }
 {
-    trgsw::cmux(
+    trgsw::cmux::cmux(
         n,
         g,
         l,
@@ -330,7 +348,7 @@ pub extern "C" fn cikenuma_cmux_bound(
     ensures { λ r. ⌜ r ≡ bound (Blocks.cmux n g l amplitude amplitude0 amplitude1
         (now (block .entry)) (now (sample0 .entry)) (now (sample1 .entry)) (now (out .entry))) ⌝ }
 {
-    trgsw::cmux_answer(
+    trgsw::cmux::cmux_answer(
         n,
         g,
         l,
@@ -360,7 +378,7 @@ pub extern "C" fn cikenuma_cmux_gates(
     ensures { λ r. ⌜ r ≡ gates (Blocks.cmux n g l amplitude amplitude0 amplitude1
         (now (block .entry)) (now (sample0 .entry)) (now (sample1 .entry)) (now (out .entry))) ⌝ }
 {
-    trgsw::cmux_answer(
+    trgsw::cmux::cmux_answer(
         n,
         g,
         l,

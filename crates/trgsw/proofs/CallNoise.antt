@@ -26,7 +26,7 @@ use Rattle.trgsw.specs.External.{external, externalSample, cmuxSample, p
 use Rattle.trgsw.specs.Calls.{encryptSelector, encryptSelectorBlock, externalProduct, externalProductOut, cmux, cmuxOut}
 use Rattle.trgsw.proofs.Accepted.{Selectable, selector-accepted, selector-accepts, Multipliable, external-accepted, external-accepts, Pickable, cmux-accepted, cmux-accepts}
 use Rattle.trgsw.proofs.Noise.{external-charge, external-within, cmux-charge, cmux-within, key-weight}
-use Rattle.trgsw.proofs.Selector.{encrypted-holds}
+use Rattle.trgsw.proofs.Encrypted.{encrypted-holds}
 
 -- ---- the words that the calls leave
 

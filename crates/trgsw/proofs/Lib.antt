@@ -5,6 +5,6 @@ pub mod Signed
 pub mod Gate
 pub mod Rows
 pub mod Noise
-pub mod Selector
+pub mod Encrypted
 pub mod CallNoise
 pub mod Instance

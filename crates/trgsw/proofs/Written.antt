@@ -5,7 +5,7 @@ use mathlib.Core.Logic.{_⊎_, inl, inr, _≢_}
 use mathlib.Core.Bool.{cond}
 use mathlib.Core.List.{List}
 use Prim.Native.Nat.{ℕ, suc, _+_, _*_, _%_, _^_, _≤_, _<_}
-use native.Mathlib.Nat.{add-zero, zero-add, mod-eq-of-lt, mod-mod}
+use native.Mathlib.Nat.{add-zero, zero-add, mod-eq-of-lt, mod-mod, zero-lt-suc, mul-le-mul, mul-le-mul-left}
 use native.Mathlib.Numerals.{add-one}
 use native.Mathlib.Decide.{ℕ-discrete}
 use native.Mathlib.Omega.{arith}
@@ -81,3 +81,11 @@ cleared-made N k g L block x o e =
     polynomials-cong N (suc k) _ _ (λ c i lc li.
     let none : part N o c i ≡ 0 = ap (λ l. part N l c i) e ∙ getD-replicate (suc k * N) (c * N + i) 0 0 (digits-lt lc li) in
     ap (λ w. add w (external N k g L block x c i)) none ∙ ap (λ w. w % 2 ^ 32) (zero-add (external N k g L block x c i)) ∙ mod-mod _ (2 ^ 32))
+
+-- ---- room
+
+-- A block of rows has at least as many words as rows.
+pub rows-fit : (k l n : ℕ) → 0 < n → suc k * l ≤ suc k * l * (suc k * n)
+rows-fit k l n h =
+    let some : 1 ≤ suc k * n = omega (arith, mul-le-mul (zero-lt-suc k) h) in
+    omega (arith, mul-le-mul-left (suc k * l) some)

@@ -1,4 +1,4 @@
--- `trgsw::cmux_in` meets its contract. Assumes nothing.
+-- `trgsw::cmux::cmux_in` meets its contract. Assumes nothing.
 use native.Mathlib.Omega.{arith}
 use mathlib.Core.Path.{ap₂, _∙_}
 use Prim.Native.Nat.{suc}
@@ -7,8 +7,8 @@ use Rattle.torus.specs.Bytes.{words}
 use Rattle.ring.proofs.Degrees.{degree-pos}
 use Rattle.trgsw.specs.External.{cmuxSample}
 use borrow.Author.Needs.{needs}
-use Rattle.trgsw.proofs.cmux_in.Statement.{statement}
-use Rattle.trgsw.proofs.cmux_in.Tie as tie
+use Rattle.trgsw.proofs.cmux.cmux_in.Statement.{statement}
+use Rattle.trgsw.proofs.cmux.cmux_in.Tie as tie
 
 add-size : tie.Need-add-size
 add-size c = let s = c .before .before .before .before .before .args in omega (arith, mul-le-mul (le-refl (suc (s .k))) (degree-pos (s .n) (c .before .before .before .before .before .pre .0)))

@@ -1,4 +1,4 @@
--- `trgsw::external_product` meets its contract. Assumes nothing.
+-- `trgsw::external::external_product` meets its contract. Assumes nothing.
 use native.Mathlib.Omega.{arith}
 use mathlib.Core.Path.{_≡_, ap, sym, _∙_}
 use Prim.Native.Nat.{_*_}
@@ -9,8 +9,8 @@ use Rattle.trgsw.specs.Calls as Calls
 use Rattle.trgsw.proofs.Accepted.{Multipliable, external-accepted}
 use Rattle.trgsw.proofs.Written.{cleared-made}
 use borrow.Author.Needs.{needs}
-use Rattle.trgsw.proofs.external_product.Statement.{statement}
-use Rattle.trgsw.proofs.external_product.Tie as tie
+use Rattle.trgsw.proofs.external.external_product.Statement.{statement}
+use Rattle.trgsw.proofs.external.external_product.Tie as tie
 
 answered : (c : tie.After-number) → let s = c .before .before .before .before .before .before .args in
     c .number .result

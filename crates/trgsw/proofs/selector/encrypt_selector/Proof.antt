@@ -1,4 +1,4 @@
--- `trgsw::encrypt_selector` meets its contract. Assumes nothing.
+-- `trgsw::selector::encrypt_selector` meets its contract. Assumes nothing.
 use native.Mathlib.Omega.{arith}
 use mathlib.Core.Path.{_≡_, ap, sym, _∙_}
 use Prim.Native.Nat.{_*_}
@@ -8,8 +8,8 @@ use Rattle.answers.proofs.Laws.{after-refused, after-accepted}
 use Rattle.trgsw.specs.Calls as Calls
 use Rattle.trgsw.proofs.Accepted.{Selectable, selector-accepted}
 use borrow.Author.Needs.{needs}
-use Rattle.trgsw.proofs.encrypt_selector.Statement.{statement}
-use Rattle.trgsw.proofs.encrypt_selector.Tie as tie
+use Rattle.trgsw.proofs.selector.encrypt_selector.Statement.{statement}
+use Rattle.trgsw.proofs.selector.encrypt_selector.Tie as tie
 
 -- The number is that of the answer.
 answered : (c : tie.After-number) → let s = c .before .before .before .before .before .before .before .args in

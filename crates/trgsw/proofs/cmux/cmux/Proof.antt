@@ -1,4 +1,4 @@
--- `trgsw::cmux` meets its contract. Assumes nothing.
+-- `trgsw::cmux::cmux` meets its contract. Assumes nothing.
 use native.Mathlib.Omega.{arith}
 use mathlib.Core.Path.{_≡_, ap, sym, _∙_}
 use Prim.Native.Nat.{_*_}
@@ -8,8 +8,8 @@ use Rattle.answers.proofs.Laws.{after-refused, after-accepted}
 use Rattle.trgsw.specs.Calls as Calls
 use Rattle.trgsw.proofs.Accepted.{Pickable, cmux-accepted}
 use borrow.Author.Needs.{needs}
-use Rattle.trgsw.proofs.cmux.Statement.{statement}
-use Rattle.trgsw.proofs.cmux.Tie as tie
+use Rattle.trgsw.proofs.cmux.cmux.Statement.{statement}
+use Rattle.trgsw.proofs.cmux.cmux.Tie as tie
 
 answered : (c : tie.After-number) → let s = c .before .before .before .before .before .before .before .args in
     c .number .result

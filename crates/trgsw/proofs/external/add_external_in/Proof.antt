@@ -1,7 +1,7 @@
--- `trgsw::add_external_in` meets its contract. The loop's invariant: the first r rows are summed. Assumes nothing.
+-- `trgsw::external::add_external_in` meets its contract. The loop's invariant: the first r rows are summed. Assumes nothing.
 use native.Mathlib.Omega.{arith}
 use mathlib.Core.Path.{_≡_, refl, ap, ap₂, sym, _∙_, subst}
-use Prim.Native.Nat.{ℕ, suc, _+_, _*_, _-_, _/_, _^_, _≤_, _<_}
+use Prim.Native.Nat.{suc, _+_, _*_, _-_, _/_, _^_, _≤_, _<_}
 use native.Mathlib.Nat.{mul-le-mul, div-lt-iff-lt-mul, le-refl}
 use lib.ListN.{length, getD, take, drop}
 use Rattle.torus.specs.Bytes.{words}
@@ -17,14 +17,10 @@ use Rattle.ring.proofs.Degrees.{degree-pos}
 use Rattle.trlwe.proofs.Masks.{part-lent}
 use Rattle.trgsw.specs.Block.{row}
 use Rattle.trgsw.specs.External.{rowDigits, external}
-use Rattle.trgsw.proofs.Written.{Summed, summed-none, summed-more}
+use Rattle.trgsw.proofs.Written.{Summed, summed-none, summed-more, rows-fit}
 use borrow.Author.Needs.{needs}
-use Rattle.trgsw.proofs.add_external_in.Statement.{statement}
-use Rattle.trgsw.proofs.add_external_in.Tie as tie
-
--- The rows, their number and their size fit.
-rows-fit : (k l n : ℕ) → 0 < l → 0 < n → suc k * l ≤ suc k * l * (suc k * n)
-rows-fit k l n pl pn = omega (arith, mul-le-mul (le-refl (suc k * l)) (mul-le-mul (le-refl (suc k)) pn))
+use Rattle.trgsw.proofs.external.add_external_in.Statement.{statement}
+use Rattle.trgsw.proofs.external.add_external_in.Tie as tie
 
 abbrev Inv-loop : tie.InvT-loop
 Inv-loop out₀ room₀ block x k n g l rows size row-size r₀ out room r = (r ≤ suc k * l) × (length out ≡ length out₀) × (length room ≡ length room₀) × Summed n k g l (words block) (words x) r (words out₀) (words out)
@@ -51,7 +47,7 @@ add-rows : tie.Need-add-rows Inv-loop μ-loop
 add-rows c = let s = c .before .before .before .before .args in let p = c .before .before .before .before .pre in omega (arith, mul-le-mul (le-refl (suc (s .k))) (degree-pos (s .n) (p .0)))
 
 mul-rows : tie.Need-mul-rows Inv-loop μ-loop
-mul-rows c = let s = c .before .before .before .before .args in let p = c .before .before .before .before .pre in omega (arith, rows-fit (s .k) (s .l) (s .n) (p .1 .some) (degree-pos (s .n) (p .0)))
+mul-rows c = let s = c .before .before .before .before .args in let p = c .before .before .before .before .pre in omega (arith, rows-fit (s .k) (s .l) (s .n) (degree-pos (s .n) (p .0)))
 
 mul-size : tie.Need-mul-size Inv-loop μ-loop
 mul-size c = search needs
@@ -119,7 +115,7 @@ add-row-requires c κs =
     )
 
 add-r : tie.Need-add-r Inv-loop μ-loop
-add-r c = let s = c .before .before .before .before .before .before .before .before .before .before .before .before .before .before .before .before .before .before .args in let p = c .before .before .before .before .before .before .before .before .before .before .before .before .before .before .before .before .before .before .pre in omega (arith, rows-fit (s .k) (s .l) (s .n) (p .1 .some) (degree-pos (s .n) (p .0)))
+add-r c = let s = c .before .before .before .before .before .before .before .before .before .before .before .before .before .before .before .before .before .before .args in let p = c .before .before .before .before .before .before .before .before .before .before .before .before .before .before .before .before .before .before .pre in omega (arith, rows-fit (s .k) (s .l) (s .n) (degree-pos (s .n) (p .0)))
 
 loop-less : tie.Need-loop-less Inv-loop μ-loop
 loop-less c = search needs

@@ -1,4 +1,4 @@
--- `trgsw::encrypt_selector_answer` meets its contract. Assumes nothing.
+-- `trgsw::selector::encrypt_selector_answer` meets its contract. Assumes nothing.
 use native.Mathlib.Omega.{arith}
 use mathlib.Core.Path.{_≡_, ap, ap₂, sym, _∙_}
 use Prim.Native.Nat.{_*_, _≤_}
@@ -17,8 +17,8 @@ use Rattle.answers.specs.declared.Answer.the-variants.{Accepted}
 use Rattle.answers.proofs.Laws.{stopped, went-on, first-orElse, triple-orElse, first-none, degree-held, gadget-held, exact-held}
 use Rattle.trgsw.specs.Calls as Calls
 use borrow.Author.Needs.{needs}
-use Rattle.trgsw.proofs.encrypt_selector_answer.Statement.{statement}
-use Rattle.trgsw.proofs.encrypt_selector_answer.Tie as tie
+use Rattle.trgsw.proofs.selector.encrypt_selector_answer.Statement.{statement}
+use Rattle.trgsw.proofs.selector.encrypt_selector_answer.Tie as tie
 
 -- Where the function starts, seen from each place at which a group of checks has been made.
 abbrev start : tie.After-first → tie.Start

@@ -1,4 +1,4 @@
--- `trgsw::cmux_in_place` meets its contract. Assumes nothing.
+-- `trgsw::cmux::cmux_in_place` meets its contract. Assumes nothing.
 use native.Mathlib.Omega.{arith}
 use mathlib.Core.Path.{_≡_, ap, _∙_}
 use Prim.Native.Nat.{suc, _*_}
@@ -10,8 +10,8 @@ use Rattle.ring.proofs.Degrees.{degree-pos}
 use Rattle.trlwe.specs.Sample.{part, polynomials}
 use Rattle.trgsw.specs.External.{external, difference, cmuxSample}
 use borrow.Author.Needs.{needs}
-use Rattle.trgsw.proofs.cmux_in_place.Statement.{statement}
-use Rattle.trgsw.proofs.cmux_in_place.Tie as tie
+use Rattle.trgsw.proofs.cmux.cmux_in_place.Statement.{statement}
+use Rattle.trgsw.proofs.cmux.cmux_in_place.Tie as tie
 
 add-sub-words : tie.Need-add-sub-words
 add-sub-words c = let s = c .before .before .before .before .before .args in omega (arith, mul-le-mul (le-refl (suc (s .k))) (degree-pos (s .n) (c .before .before .before .before .before .pre .0)))

@@ -1,0 +1,148 @@
+// The external product of a block with a sample.
+use crate::charge;
+use crate::place;
+use answers::Answer;
+use answers::Ledger;
+ghost use mathlib.Core.Path.{_≡_};
+ghost use Prim.Native.Nat.{ℕ, suc, _*_, _^_, _≤_, _<_};
+ghost use lib.ListN.{length};
+ghost use Rattle.torus.specs.Sum.{joined, chunk};
+ghost use Rattle.torus.specs.Word as W;
+ghost use Rattle.torus.specs.Bytes.{words};
+ghost use Rattle.gadget.specs.Digits.{Lawful};
+ghost use Rattle.ring.specs.Polynomial.{Degree, coefficients, addProduct};
+ghost use Rattle.answers.specs.Answers.{number};
+ghost use Rattle.trlwe.specs.Sample.{part, polynomials};
+ghost use Rattle.trgsw.specs.External as External;
+ghost use Rattle.trgsw.specs.Calls as Calls;
+
+// To each of the k + 1 polynomials of out, the product of small and the same polynomial of row.
+fn add_row(out: &mut [u8], small: &[u8], row: &[u8], k: usize, n: usize)
+    requires { ⌜ Degree n × (length (now out) ≡ 4 * (suc k * n)) × (length (now small) ≡ 4 * n)
+        × (length (now row) ≡ 4 * (suc k * n))
+        × ((i : ℕ) → i < n → W.magnitude (coefficients (words (now small)) i) ≤ 2 ^ 15) ⌝ }
+    ensures { λ _. ⌜ words (now (out .exit)) ≡ joined (suc k) (λ c. addProduct n
+        (chunk n c (words (now (out .entry)))) (words (now (small .entry))) (chunk n c (words (now (row .entry))))) ⌝ }
+{
+    let size = 4 * n;
+    let mut c = 0;
+    while c <= k {
+        let at = c * size;
+        ring::add_product(&mut out[at..at + size], small, &row[at..at + size], n);
+        c += 1;
+    }
+}
+
+// To out, the external product of the block with x. The digit polynomials are made in room, which has n words.
+fn add_external_in(
+    out: &mut [u8],
+    room: &mut [u8],
+    block: &[u8],
+    x: &[u8],
+    k: usize,
+    n: usize,
+    g: u32,
+    l: u32,
+)
+    requires { ⌜ Degree n × Lawful g l × (length (now out) ≡ 4 * (suc k * n)) × (length (now room) ≡ 4 * n)
+        × (length (now block) ≡ 4 * (suc k * l * (suc k * n))) × (length (now x) ≡ 4 * (suc k * n)) ⌝ }
+    ensures { λ _. ⌜ words (now (out .exit)) ≡ polynomials n (suc k) (λ c i. W.add (part n (words (now (out .entry))) c i)
+        (External.external n k g l (words (now (block .entry))) (words (now (x .entry))) c i)) ⌝ }
+{
+    let rows = (k + 1) * l as usize;
+    let size = 4 * n;
+    let row_size = (k + 1) * size;
+    let mut r = 0;
+    while r < rows {
+        let from = r / l as usize * size;
+        gadget::write_digits(room, &x[from..from + size], n, g, l, place(r, l));
+        let at = r * row_size;
+        add_row(out, room, &block[at..at + row_size], k, n);
+        r += 1;
+    }
+}
+
+// To out, the external product of the block with x.
+pub fn add_external(out: &mut [u8], block: &[u8], x: &[u8], k: usize, n: usize, g: u32, l: u32)
+    requires { ⌜ Degree n × Lawful g l × (length (now out) ≡ 4 * (suc k * n))
+        × (length (now block) ≡ 4 * (suc k * l * (suc k * n))) × (length (now x) ≡ 4 * (suc k * n)) ⌝ }
+    ensures { λ _. ⌜ words (now (out .exit)) ≡ polynomials n (suc k) (λ c i. W.add (part n (words (now (out .entry))) c i)
+        (External.external n k g l (words (now (block .entry))) (words (now (x .entry))) c i)) ⌝ }
+{
+    let mut room = [0u8; 4096];
+    add_external_in(out, &mut room[0..4 * n], block, x, k, n, g, l);
+}
+
+// What external_product answers.
+pub fn external_product_answer(
+    n: u64,
+    g: u64,
+    l: u64,
+    amplitude: u64,
+    sample_amplitude: u64,
+    block: &[u8],
+    sample: &[u8],
+    out: &[u8],
+) -> Answer
+    ensures { λ r. ⌜ r ≡ Calls.externalProduct n g l amplitude «sample_amplitude»
+        (now (block .entry)) (now (sample .entry)) (now (out .entry)) ⌝ }
+{
+    let numbers = answers::first(answers::degree(n), answers::gadget(g, l));
+    if numbers != 0 {
+        return Answer::Refused(numbers);
+    }
+    let lengths = answers::first(
+        answers::exact(block.len(), 4 * l * n),
+        answers::first(
+            answers::exact(sample.len(), 2 * n),
+            answers::exact(out.len(), 2 * n),
+        ),
+    );
+    if lengths != 0 {
+        return Answer::Refused(lengths);
+    }
+    let amplitudes = answers::first(
+        answers::amplitude(amplitude),
+        answers::amplitude(sample_amplitude),
+    );
+    if amplitudes != 0 {
+        return Answer::Refused(amplitudes);
+    }
+    let bound = charge(n, 1, g as u32, l as u32, n, amplitude) + sample_amplitude;
+    Answer::Accepted(Ledger { bound, gates: 0 })
+}
+
+// The external product of a block with a sample, each within its declared amplitude. Answers its number.
+pub fn external_product(
+    n: u64,
+    g: u64,
+    l: u64,
+    amplitude: u64,
+    sample_amplitude: u64,
+    block: &[u8],
+    sample: &[u8],
+    out: &mut [u8],
+) -> u32
+    ensures { λ r. ⌜ (r ≡ number (Calls.externalProduct n g l amplitude «sample_amplitude»
+        (now (block .entry)) (now (sample .entry)) (now (out .entry))))
+        × (now (out .exit) ≡ Calls.externalProductOut n g l amplitude «sample_amplitude»
+        (now (block .entry)) (now (sample .entry)) (now (out .entry))) ⌝ }
+{
+    let fault = external_product_answer(
+        n,
+        g,
+        l,
+        amplitude,
+        sample_amplitude,
+        block,
+        sample,
+        out,
+    ).number();
+    if fault != 0 {
+        return fault;
+    }
+    let degree = n as usize;
+    torus::clear_words(out, 2 * degree);
+    add_external(out, block, sample, 1, degree, g as u32, l as u32);
+    0
+}
