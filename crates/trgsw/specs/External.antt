@@ -44,7 +44,7 @@ picked m x₀ x₁ = cond (eqb m 0) x₀ x₁
 unfoldable pub charge : (N k g L W A : ℕ) → ℕ
 charge N k g L W A = suc k * L * N * half g * A + (1 + W) * precision g L
 
--- What the code asks of a charge's numbers, so that 64 bits hold it. It is lawful for up to four masks.
+-- What the code asks of the numbers of a charge, so that 64 bits hold it. The public calls meet it, and so do up to four masks.
 pub record Chargeable (N k g L W A : ℕ) : Type 0 where
   pub lawful : Lawful g L
   pub degree : N ≤ 1024
