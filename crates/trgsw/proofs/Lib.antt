@@ -1,5 +1,6 @@
 pub mod Charges
 pub mod Written
+pub mod OneMask
 pub mod Accepted
 pub mod Signed
 pub mod Gate
