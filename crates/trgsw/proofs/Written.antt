@@ -1,29 +1,31 @@
 -- What the code writes: one word added in a row, and the sums over rows made in place.
 -- Assumes nothing.
-use mathlib.Core.Path.{_≡_, refl, ap, ap₂, sym, _∙_}
-use mathlib.Core.Logic.{_⊎_, inl, inr, _≢_}
+use mathlib.Core.Path.{_≡_, ap, ap₂, sym, _∙_}
 use mathlib.Core.Bool.{cond}
 use mathlib.Core.List.{List}
-use Prim.Native.Nat.{ℕ, suc, _+_, _*_, _%_, _^_, _≤_, _<_}
+use Prim.Native.Nat.{ℕ, suc, _+_, _*_, _/_, _%_, _^_, _≤_, _<_}
 use native.Mathlib.Nat.{add-zero, zero-add, mod-eq-of-lt, mod-mod, zero-lt-suc, mul-le-mul, mul-le-mul-left}
 use native.Mathlib.Numerals.{add-one}
 use native.Mathlib.Decide.{ℕ-discrete}
 use native.Mathlib.Omega.{arith}
 use lib.Dec.{eqb}
 use lib.Arith.{digits-lt}
-use lib.ListN.{length, getD, set, replicate, length-set, getD-replicate}
+use lib.ListN.{length, getD, take, drop, set, replicate, length-set, getD-replicate}
 use lib.Seq.{ext-getD, getD-set-same, getD-set-other}
 use borrow.Author.Tests.{eq-eqb, ne-eqb}
 use Rattle.torus.specs.Sum.{sum, tabulate, joined, chunk}
 use Rattle.torus.specs.Word.{add}
+use Rattle.torus.specs.Bytes.{words}
 use Rattle.torus.proofs.Sums.{add-add}
 use Rattle.torus.proofs.Lists.{length-tabulate, tabulate-at, tabulate-cong}
 use Rattle.torus.proofs.Joined.{joined-cong, chunk-at}
-use Rattle.ring.specs.Polynomial.{coefficients, Agree, product, addProduct}
+use Rattle.gadget.specs.Digits.{digit, digitPolynomial}
+use Rattle.ring.specs.Polynomial.{coefficients, product, addProduct}
 use Rattle.ring.proofs.Terms.{product-agree}
 use Rattle.trlwe.specs.Sample.{part, polynomials}
+use Rattle.trlwe.proofs.Masks.{part-lent}
 use Rattle.trlwe.proofs.Polynomials.{part-polynomials, polynomials-cong, polynomials-self}
-use Rattle.trgsw.specs.Block.{row}
+use Rattle.trgsw.specs.Block.{place, row}
 use Rattle.trgsw.specs.External.{rowDigits, external, externalSample}
 
 -- w added to word number `at` of n words.
@@ -50,13 +52,18 @@ summed-none N k g L block x o pos size word =
     sym (polynomials-cong N (suc k) _ (part N o) (λ c i lc li. ap (λ w. w % 2 ^ 32) (add-zero (part N o c i)) ∙ mod-eq-of-lt (word (c * N + i)))
     ∙ polynomials-self N (suc k) o pos size)
 
--- One row more: d has the digits that go with it.
-pub summed-more : (N k g L : ℕ) (block x : List ℕ) (r : ℕ) (o out out′ d : List ℕ) → Summed N k g L block x r o out
-    → Agree N (coefficients d) (rowDigits N g L x r)
-    → out′ ≡ joined (suc k) (λ c. addProduct N (chunk N c out) d (chunk N c (row N k r block)))
+-- The digit polynomial that goes with row r, from the polynomial of x that is lent as bytes from p on.
+pub row-digits : (N g L j r p q : ℕ) (x : List ℕ) → p ≡ 4 * (r / L * N) → q ≡ 4 * N → j ≡ place L r
+    → digitPolynomial N g L j (words (take q (drop p x))) ≡ tabulate N (rowDigits N g L (words x) r)
+unfolding digitPolynomial
+row-digits N g L j r p q x ep eq ej = tabulate-cong N _ _ (λ i l. ap₂ (digit g L) (part-lent N (r / L) p q x ep eq i l) ej)
+
+-- One row more.
+pub summed-more : (N k g L : ℕ) (block x : List ℕ) (r : ℕ) (o out out′ : List ℕ) → Summed N k g L block x r o out
+    → out′ ≡ joined (suc k) (λ c. addProduct N (chunk N c out) (tabulate N (rowDigits N g L x r)) (chunk N c (row N k r block)))
     → Summed N k g L block x (r + 1) o out′
 unfolding addProduct polynomials sum
-summed-more N k g L block x r o out out′ d h ed e =
+summed-more N k g L block x r o out out′ h e =
     e ∙ joined-cong (suc k) _ _ (λ c lc. tabulate-cong N _ _ (λ i li. turn c i lc li))
   where
     terms : (c i q : ℕ) → ℕ
@@ -66,10 +73,11 @@ summed-more N k g L block x r o out out′ d h ed e =
     was c i lc li = chunk-at N c out i li ∙ ap (λ l. part N l c i) h ∙ part-polynomials N (suc k) _ c i lc li
 
     turn : (c i : ℕ) → c < suc k → i < N
-        → add (getD (chunk N c out) i 0) (product N (coefficients d) (coefficients (chunk N c (row N k r block))) i)
+        → add (getD (chunk N c out) i 0) (product N (coefficients (tabulate N (rowDigits N g L x r))) (coefficients (chunk N c (row N k r block))) i)
         ≡ add (part N o c i) (sum (r + 1) (terms c i) % 2 ^ 32)
     turn c i lc li =
-        ap₂ add (was c i lc li) (product-agree N ed (λ t lt. chunk-at N c (row N k r block) t lt) i li)
+        ap₂ add (was c i lc li)
+        (product-agree N (λ t lt. tabulate-at N (rowDigits N g L x r) t lt) (λ t lt. chunk-at N c (row N k r block) t lt) i li)
         ∙ add-add (part N o c i) (sum r (terms c i)) (terms c i r)
         ∙ ap (λ n. add (part N o c i) (sum n (terms c i) % 2 ^ 32)) (sym (add-one r))
 

@@ -6,13 +6,14 @@ use answers::Ledger;
 ghost use mathlib.Core.Path.{_≡_};
 ghost use Prim.Native.Nat.{ℕ, suc, _*_, _^_, _≤_, _<_};
 ghost use lib.ListN.{length};
-ghost use Rattle.torus.specs.Sum.{joined, chunk};
+ghost use Rattle.torus.specs.Sum.{tabulate, joined, chunk};
 ghost use Rattle.torus.specs.Word as W;
 ghost use Rattle.torus.specs.Bytes.{words};
 ghost use Rattle.gadget.specs.Digits.{Lawful};
 ghost use Rattle.ring.specs.Polynomial.{Degree, coefficients, addProduct};
 ghost use Rattle.answers.specs.Answers.{number};
 ghost use Rattle.trlwe.specs.Sample.{part, polynomials};
+ghost use Rattle.trgsw.specs.Block as Block;
 ghost use Rattle.trgsw.specs.External as External;
 ghost use Rattle.trgsw.specs.Calls as Calls;
 
@@ -33,7 +34,32 @@ fn add_row(out: &mut [u8], small: &[u8], row: &[u8], k: usize, n: usize)
     }
 }
 
-// To out, the external product of the block with x. The digit polynomials are made in room, which has n words.
+// To out, the term of row r: the digit polynomial of x that goes with it, which is made in room, times the row.
+fn add_term(
+    out: &mut [u8],
+    room: &mut [u8],
+    block: &[u8],
+    x: &[u8],
+    k: usize,
+    n: usize,
+    g: u32,
+    l: u32,
+    r: usize,
+)
+    requires { ⌜ Degree n × Lawful g l × (r < suc k * l) × (length (now out) ≡ 4 * (suc k * n)) × (length (now room) ≡ 4 * n)
+        × (length (now block) ≡ 4 * (suc k * l * (suc k * n))) × (length (now x) ≡ 4 * (suc k * n)) ⌝ }
+    ensures { λ _. ⌜ words (now (out .exit)) ≡ joined (suc k) (λ c. addProduct n (chunk n c (words (now (out .entry))))
+        (tabulate n (External.rowDigits n g l (words (now (x .entry))) r)) (chunk n c (Block.row n k r (words (now (block .entry)))))) ⌝ }
+{
+    let size = 4 * n;
+    let from = r / l as usize * size;
+    gadget::write_digits(room, &x[from..from + size], n, g, l, place(r, l));
+    let row_size = (k + 1) * size;
+    let at = r * row_size;
+    add_row(out, room, &block[at..at + row_size], k, n);
+}
+
+// To out, the external product of the block with x: the terms of all rows. room has n words.
 fn add_external_in(
     out: &mut [u8],
     room: &mut [u8],
@@ -50,14 +76,9 @@ fn add_external_in(
         (External.external n k g l (words (now (block .entry))) (words (now (x .entry))) c i)) ⌝ }
 {
     let rows = (k + 1) * l as usize;
-    let size = 4 * n;
-    let row_size = (k + 1) * size;
     let mut r = 0;
     while r < rows {
-        let from = r / l as usize * size;
-        gadget::write_digits(room, &x[from..from + size], n, g, l, place(r, l));
-        let at = r * row_size;
-        add_row(out, room, &block[at..at + row_size], k, n);
+        add_term(out, room, block, x, k, n, g, l, r);
         r += 1;
     }
 }

@@ -7,7 +7,7 @@ use native.Mathlib.Nat.{mod-lt, div-add-mod', div-lt-iff-lt-mul}
 use native.Mathlib.Omega.{arith}
 use lib.ListN.{length, getD}
 use lib.Seq.{ext-getD}
-use Rattle.torus.specs.Sum.{tabulate, joined}
+use Rattle.torus.specs.Sum.{tabulate}
 use Rattle.torus.proofs.Lists.{length-tabulate, tabulate-at, tabulate-cong, tabulate-below}
 use Rattle.torus.proofs.Joined.{Each, length-joined, joined-cong, joined-at, joined-below}
 use Rattle.trlwe.specs.Sample.{part, polynomials}

@@ -75,7 +75,8 @@ unfolding Calls.cmuxOut
 returns-2 c =
     let e = sym (answered (c .before .before .before .before .before .before .before)) ∙ c .before .before .before .before .before .before .if1 .left in
     let f = fit (c .before .before .before .before .before .before) in
-    (sym e, after-accepted _ (2 * c .before .before .before .before .before .before .before .before .before .before .before .before .before .before .args .n) _ _ _ e (omega (arith, f .out-length)) (λ i. c .before .slice-known2 .given i .fits) (c .before .before .before .cmux-in .ensures))
+    let n = 2 * c .before .before .before .before .before .before .before .before .before .before .before .before .before .before .args .n in
+    (sym e, after-accepted _ n _ _ _ e (omega (arith, f .out-length)) (λ i. c .before .slice-known2 .given i .fits) (c .before .before .before .cmux-in .ensures))
 
 pub cmux-spec : {M : Type 1} → statement M
 cmux-spec =

@@ -11,7 +11,9 @@ use Rattle.trgsw.proofs.cmux.cmux_in.Statement.{statement}
 use Rattle.trgsw.proofs.cmux.cmux_in.Tie as tie
 
 add-size : tie.Need-add-size
-add-size c = let s = c .before .before .before .before .before .args in omega (arith, mul-le-mul (le-refl (suc (s .k))) (degree-pos (s .n) (c .before .before .before .before .before .pre .0)))
+add-size c =
+    let s = c .before .before .before .before .before .args in
+    omega (arith, mul-le-mul (le-refl (suc (s .k))) (degree-pos (s .n) (c .before .before .before .before .before .pre .0)))
 
 mul-size : tie.Need-mul-size
 mul-size c = search needs
@@ -35,7 +37,9 @@ returns : tie.Need-returns
 returns c =
     let s = c .before .before .before .before .before .before .before .before .before .before .before .before .before .before .before .before .before .before .before .before .args in
     c .before .before .before .before .cmux-in-place .ensures .0
-    ∙ ap₂ (cmuxSample (s .n) (s .k) (s .g) (s .l) (words (s .block .now))) (c .before .before .before .before .before .before .before .before .before .before .before .before .before .copy-words .ensures) (c .before .before .before .before .before .before .before .before .before .copy-words2 .ensures)
+    ∙ ap₂ (cmuxSample (s .n) (s .k) (s .g) (s .l) (words (s .block .now)))
+    (c .before .before .before .before .before .before .before .before .before .before .before .before .before .copy-words .ensures)
+    (c .before .before .before .before .before .before .before .before .before .copy-words2 .ensures)
 
 pub cmux-in-spec : {M : Type 1} → statement M
 cmux-in-spec =

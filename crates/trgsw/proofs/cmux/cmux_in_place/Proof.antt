@@ -14,7 +14,9 @@ use Rattle.trgsw.proofs.cmux.cmux_in_place.Statement.{statement}
 use Rattle.trgsw.proofs.cmux.cmux_in_place.Tie as tie
 
 add-sub-words : tie.Need-add-sub-words
-add-sub-words c = let s = c .before .before .before .before .before .args in omega (arith, mul-le-mul (le-refl (suc (s .k))) (degree-pos (s .n) (c .before .before .before .before .before .pre .0)))
+add-sub-words c =
+    let s = c .before .before .before .before .before .args in
+    omega (arith, mul-le-mul (le-refl (suc (s .k))) (degree-pos (s .n) (c .before .before .before .before .before .pre .0)))
 
 mul-sub-words : tie.Need-mul-sub-words
 mul-sub-words c = search needs

@@ -41,7 +41,9 @@ mul-size : tie.Need-mul-size Inv-loop μ-loop
 mul-size c = search needs
 
 loop-holds : tie.Need-loop-holds Inv-loop μ-loop
-loop-holds c = let s = c .before .before .before .args in (omega arith, refl, written-none (s .n) (made (s .n) (s .out .now) (s .small .now) (s .row .now)) (words (s .out .now)))
+loop-holds c =
+    let s = c .before .before .before .args in
+    (omega arith, refl, written-none (s .n) (made (s .n) (s .out .now) (s .small .now) (s .row .now)) (words (s .out .now)))
 
 mul-at : tie.Need-mul-at Inv-loop μ-loop
 mul-at c = omega (arith, inside c)
@@ -86,7 +88,8 @@ add-c : tie.Need-add-c Inv-loop μ-loop
 add-c c =
     let s = c .before .before .before .before .before .before .before .before .before .before .args in
     let l : c .before .before .before .before .before .before .loop .c < suc (s .k) = omega arith in
-    omega (arith, inside (c .before .before .before .before .before), mul-le-mul l (degree-pos (s .n) (c .before .before .before .before .before .before .before .before .before .before .pre .0)))
+    let n = degree-pos (s .n) (c .before .before .before .before .before .before .before .before .before .before .pre .0) in
+    omega (arith, inside (c .before .before .before .before .before), mul-le-mul l n)
 
 loop-less : tie.Need-loop-less Inv-loop μ-loop
 loop-less c = search needs
@@ -103,7 +106,8 @@ loop-again c =
       omega arith,
       omega arith,
       written-more (s .n) (at .c) p (p + 4 * s .n - p) f (words (s .out .now)) (at .out) (each _ _ _ _ _) (at .inv .2) (omega arith) (omega arith) _
-          (omega (arith, inside (c .before .before .before .before .before))) (omega arith) (c .before .before .add-product .ensures ∙ ap₂ (λ o r. addProduct (s .n) o (words (s .small .now)) r) lent row),
+          (omega (arith, inside (c .before .before .before .before .before))) (omega arith)
+          (c .before .before .add-product .ensures ∙ ap₂ (λ o r. addProduct (s .n) o (words (s .small .now)) r) lent row),
     )
 
 same-length : tie.Need-same-length Inv-loop μ-loop
@@ -114,7 +118,8 @@ returns c =
     let s = c .before .before .before .before .before .args in
     let at = c .before .loop in
     let e : at .c ≡ suc (s .k) = omega arith in
-    written-all (s .n) (suc (s .k)) (made (s .n) (s .out .now) (s .small .now) (s .row .now)) (words (s .out .now)) (words (at .out)) (omega (arith, length-words (s .out .now))) (rw e at (at .inv .2))
+    written-all (s .n) (suc (s .k)) (made (s .n) (s .out .now) (s .small .now) (s .row .now)) (words (s .out .now)) (words (at .out))
+    (omega (arith, length-words (s .out .now))) (rw e at (at .inv .2))
 
 pub add-row-spec : {M : Type 1} → statement M
 add-row-spec =

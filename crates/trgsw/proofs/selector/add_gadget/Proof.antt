@@ -52,10 +52,12 @@ returns c =
     let row = words (s .row .now) in
     let at = s .r / s .l * s .n in
     let scaled : s .m * c .before .before .before .before .before .before .before .step .result ≡ scaledStep (s .g) (s .l) (s .m) (s .r) =
-    ap (λ h. s .m * h) (c .before .before .before .before .before .before .before .step .ensures ∙ ap (step (s .g)) (c .before .before .before .before .before .before .before .before .place .ensures .0)) in
+    ap (λ h. s .m * h) (c .before .before .before .before .before .before .before .step .ensures
+    ∙ ap (step (s .g)) (c .before .before .before .before .before .before .before .before .place .ensures .0)) in
     c .before .before .put-word .ensures
     ∙ ap (set row at) (c .before .before .before .add .ensures ∙ ap₂ add (c .before .before .before .before .word-at .ensures) scaled)
-    ∙ added-at (length row) at (scaledStep (s .g) (s .l) (s .m) (s .r)) row refl (omega (arith, length-words (s .row .now))) (words-word _ (λ i. c .before .before .before .before .before .before .before .before .before .slice-known .given i .fits))
+    ∙ added-at (length row) at (scaledStep (s .g) (s .l) (s .m) (s .r)) row refl
+    (omega (arith, length-words (s .row .now))) (words-word _ (λ i. c .before .before .before .before .before .before .before .before .before .slice-known .given i .fits))
 
 pub add-gadget-spec : {M : Type 1} → statement M
 add-gadget-spec =

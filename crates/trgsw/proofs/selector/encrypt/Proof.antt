@@ -25,7 +25,8 @@ each : (n k g l m : ℕ) (key masks errors : List ℕ) (q : ℕ) → Each q (suc
 each n k g l m key masks errors q r h = length-row n k g l m (words key) _ _ r
 
 abbrev Inv-loop : tie.InvT-loop
-Inv-loop block₀ key masks errors k n g l m rows size r₀ block r = (r ≤ suc k * l) × (length block ≡ length block₀) × Written (suc k * n) r (made n k g l m key masks errors) (words block₀) (words block)
+Inv-loop block₀ key masks errors k n g l m rows size r₀ block r =
+    (r ≤ suc k * l) × (length block ≡ length block₀) × Written (suc k * n) r (made n k g l m key masks errors) (words block₀) (words block)
 
 abbrev μ-loop : tie.MeasureT-loop
 μ-loop block₀ key masks errors k n g l m rows size r₀ block r = suc k * l - r
@@ -79,7 +80,9 @@ part-write-row-end : tie.Need-part-write-row-end Inv-loop μ-loop
 part-write-row-end c = omega (arith, inside (c))
 
 write-row-requires : tie.Need-write-row-requires Inv-loop μ-loop
-write-row-requires c κs = let p = c .before .before .before .before .before .before .before .pre in (p .0, p .1, p .2, omega arith, omega (arith, inside (c .before)), p .4, p .5)
+write-row-requires c κs =
+    let p = c .before .before .before .before .before .before .before .pre in
+    (p .0, p .1, p .2, omega arith, omega (arith, inside (c .before)), p .4, p .5)
 
 add-r : tie.Need-add-r Inv-loop μ-loop
 add-r c = omega (arith, few (c .before .before .before .before .before .before .before .before .before .before))

@@ -63,10 +63,14 @@ part-encrypt-zero-end-2 : tie.Need-part-encrypt-zero-end-2
 part-encrypt-zero-end-2 c = omega (arith, errors-inside (c .before .before .before .before .before .before))
 
 encrypt-zero-requires : tie.Need-encrypt-zero-requires
-encrypt-zero-requires c κs = let s = c .before .before .before .before .before .before .before in (s .pre .0, omega (arith, s .pre .4), omega (arith, masks-inside s), omega (arith, errors-inside s))
+encrypt-zero-requires c κs =
+    let s = c .before .before .before .before .before .before .before in
+    (s .pre .0, omega (arith, s .pre .4), omega (arith, masks-inside s), omega (arith, errors-inside s))
 
 add-gadget-requires : tie.Need-add-gadget-requires
-add-gadget-requires c κs = let s = c .before .before .before .before .before .before .before .before .before .before .before in (s .pre .1, s .pre .2, omega (arith, at-inside s, degree-pos (s .args .n) (s .pre .0 .degree)))
+add-gadget-requires c κs =
+    let s = c .before .before .before .before .before .before .before .before .before .before .before in
+    (s .pre .1, s .pre .2, omega (arith, at-inside s, degree-pos (s .args .n) (s .pre .0 .degree)))
 
 same-length : tie.Need-same-length
 same-length c = search needs
@@ -79,7 +83,8 @@ returns c =
     let q = s .k * (4 * s .n) in
     let p = s .r * q in
     let e = s .r * (4 * s .n) in
-    let size : length (words (zero .last .0)) ≡ suc (s .k) * s .n = omega (arith, length-words (zero .last .0), c .before .before .before .before .before .before .before .before .before .before .before .before .before .before .pre .4) in
+    let size : length (words (zero .last .0)) ≡ suc (s .k) * s .n =
+    omega (arith, length-words (zero .last .0), c .before .before .before .before .before .before .before .before .before .before .before .before .before .before .pre .4) in
     c .before .before .add-gadget .ensures
     ∙ ap₂ (λ w row. tabulate w (λ t. add (getD row t 0) (gadgetRow (s .n) (s .g) (s .l) (s .m) (s .r) t))) size
     (zero .ensures ∙ ap₂ (λ a b. encryption (s .n) (s .k) (words (s .key .now)) a b (λ i. 0))
