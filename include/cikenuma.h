@@ -261,7 +261,9 @@ uint64_t cikenuma_encrypt_selector_gates(uint64_t N, uint64_t g, uint64_t L, uin
  *                      1 to L of the mask go with rows 1 to L, those of the body with the last L.
  *
  * Refusals, in order: 1, 2, 5, 6.
- * Bound: the charge plus sample_amplitude.
+ * Bound: the charge plus sample_amplitude. If both amplitudes hold, no coefficient of out's phase is
+ * farther than this from the bit times the sample's message. There is no limit: compare it with 2^31/M
+ * before you decrypt.
  * Gates: 0.
  */
 uint32_t cikenuma_external_product(uint64_t N, uint64_t g, uint64_t L,
@@ -298,7 +300,9 @@ uint64_t cikenuma_external_product_gates(uint64_t N, uint64_t g, uint64_t L,
  *                sample1 - sample0
  *
  * Refusals, in order: 1, 2, 5, 6.
- * Bound: the greater of amplitude0 and amplitude1, plus the charge.
+ * Bound: the greater of amplitude0 and amplitude1, plus the charge. If all three amplitudes hold, no
+ * coefficient of out's phase is farther than this from the picked sample's message. There is no limit:
+ * compare it with 2^31/M before you decrypt.
  * Gates: 1.
  */
 uint32_t cikenuma_cmux(uint64_t N, uint64_t g, uint64_t L,

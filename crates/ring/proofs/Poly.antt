@@ -2,9 +2,11 @@
 -- equation. With z = Q - 1, which is minus one modulo Q, the product is that modulo X^N + 1 and Q (`mul-at` and `product-mul`
 -- in Terms). Coefficients from N on mean nothing, and no coefficient below N depends on them.
 -- Assumes nothing.
-use mathlib.Core.Path.{_≡_, refl, ap, sym, _∙_, fun-ext}
+use mathlib.Core.Path.{_≡_, refl, ap, ap₂, sym, _∙_, fun-ext}
+use mathlib.Core.Logic.{_⊎_, inl, inr, _≢_}
 use Prim.Native.Nat.{ℕ, zero, suc, _+_, _*_, _-_, _<_}
-use native.Mathlib.Nat.{mul-zero, zero-mul, mul-add, add-mul, mul-assoc, mul-left-comm}
+use native.Mathlib.Nat.{add-zero, zero-add, mul-zero, zero-mul, mul-add, add-mul, mul-assoc, mul-left-comm, le-of-suc-le-suc, eq-or-lt-of-le}
+use native.Mathlib.Omega.{arith}
 use Rattle.torus.specs.Sum.{sum}
 use Rattle.torus.proofs.Sums.{sum-cong, sum-add}
 
@@ -102,6 +104,28 @@ psum-swap zero m f = psum-zero _ ∙ sym (psum-nil m) ∙ psum-cong m _ _ (λ j 
 psum-swap (suc n) m f =
     psum-suc n _ ∙ ap (λ p. p ⊕ psum m (λ j. f n j)) (psum-swap n m f) ∙ sym (psum-add m _ _)
     ∙ psum-cong m _ _ (λ j l. sym (psum-suc n (λ i. f i j)))
+
+-- ---- sums with one term
+
+-- p + 0 = p and 0 + p = p.
+add-nil : (p : Poly) → p ⊕ nil ≡ p
+unfolding _⊕_ nil
+add-nil p = fun-ext λ k. add-zero (p k)
+
+nil-add : (p : Poly) → nil ⊕ p ≡ p
+unfolding _⊕_ nil
+nil-add p = fun-ext λ k. zero-add (p k)
+
+-- One term more: it is the one, or the one is before it.
+only-suc : (n c : ℕ) (f : ℕ → Poly) → ((i : ℕ) → i ≢ c → f i ≡ nil) → (c < n → psum n f ≡ f c) → (c ≡ n) ⊎ (c < n) → psum n f ⊕ f n ≡ f c
+only-suc n c f h ih (inl e) =
+    ap (λ p. p ⊕ f n) (psum-cong n f (λ i. nil) (λ i l. h i (omega arith)) ∙ psum-nil n) ∙ nil-add (f n) ∙ ap f (sym e)
+only-suc n c f h ih (inr l) = ap₂ _⊕_ (ih l) (h n (omega arith)) ∙ add-nil (f c)
+
+-- A sum with one term.
+pub psum-only : (n c : ℕ) (f : ℕ → Poly) → ((i : ℕ) → i ≢ c → f i ≡ nil) → c < n → psum n f ≡ f c
+psum-only zero c f h l = absurd (omega arith)
+psum-only (suc n) c f h l = psum-suc n f ∙ only-suc n c f h (psum-only n c f h) (eq-or-lt-of-le (le-of-suc-le-suc l))
 
 -- ---- the product
 

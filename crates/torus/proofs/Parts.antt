@@ -3,12 +3,12 @@
 use mathlib.Core.Path.{_≡_, refl, ap, ap₂, sym, _∙_}
 use mathlib.Core.List.{List, [], _∷_, _++_}
 use Prim.Native.Nat.{ℕ, zero, suc, _+_, _*_, _/_, _%_, _^_, _≤_, _<_}
-use native.Mathlib.Nat.{add-zero}
+use native.Mathlib.Nat.{add-zero, mod-lt}
 use native.Mathlib.Omega.{arith}
 use lib.Dec.{lit<}
 use lib.ListN.{length, getD, take, drop, set}
 use lib.Seq.{length-take-le}
-use Rattle.torus.specs.Bytes.{word, words, bytes}
+use Rattle.torus.specs.Bytes.{AreBytes, word, words, bytes}
 
 -- 4 · i by steps of four, as `words` goes.
 abbrev quad : ℕ → ℕ
@@ -173,3 +173,13 @@ words-bytes (w ∷ ws) f =
     let d : w / 16777216 % 256 ≡ w / 16777216 = omega arith in
     let whole : word (w % 256) (w / 256 % 256) (w / 65536 % 256) (w / 16777216 % 256) ≡ w = omega arith in
     ap₂ _∷_ whole rest
+
+-- Bytes of words are bytes.
+pub bytes-are : (ws : List ℕ) → AreBytes (bytes ws)
+unfolding bytes
+bytes-are [] i = lit< tt
+bytes-are (w ∷ ws) zero = mod-lt _ (lit< tt)
+bytes-are (w ∷ ws) (suc zero) = mod-lt _ (lit< tt)
+bytes-are (w ∷ ws) (suc (suc zero)) = mod-lt _ (lit< tt)
+bytes-are (w ∷ ws) (suc (suc (suc zero))) = mod-lt _ (lit< tt)
+bytes-are (w ∷ ws) (suc (suc (suc (suc i)))) = bytes-are ws i

@@ -1,8 +1,8 @@
 -- Laws of finite sums.
 -- Assumes nothing.
 use mathlib.Core.Path.{_≡_, refl, ap, ap₂, sym, _∙_}
-use Prim.Native.Nat.{ℕ, zero, suc, _+_, _*_, _%_, _^_, _<_}
-use native.Mathlib.Nat.{add-zero, add-suc, add-assoc, zero-mul, suc-mul, add-mul, mod-add-mod, add-mod-mod}
+use Prim.Native.Nat.{ℕ, zero, suc, _+_, _*_, _%_, _^_, _≤_, _<_}
+use native.Mathlib.Nat.{le-refl, add-zero, add-suc, add-assoc, zero-mul, suc-mul, add-mul, mod-add-mod, add-mod-mod}
 use native.Mathlib.Numerals.{add-one}
 use native.Mathlib.Omega.{arith}
 use Rattle.torus.specs.Sum.{sum}
@@ -40,6 +40,12 @@ unfolding sum
 sum-blocks zero N f = ap (λ n. sum n f) (zero-mul N)
 sum-blocks (suc k) N f =
     ap (λ n. sum n f) (suc-mul k N) ∙ sum-append (k * N) N f ∙ ap (λ x. x + sum N (λ j. f (k * N + j))) (sum-blocks k N f)
+
+-- A sum of 0s and 1s is at most the number of its terms.
+pub ones-le : (n : ℕ) (f : ℕ → ℕ) → ((i : ℕ) → i < n → f i ≤ 1) → sum n f ≤ n
+unfolding sum
+ones-le zero f h = le-refl 0
+ones-le (suc n) f h = omega (arith, ones-le n f (λ i l. h i (omega arith)), h n (omega arith))
 
 -- What a loop that adds up words has before its first turn.
 pub summed-none : (f : ℕ → ℕ) → 0 ≡ sum 0 f % 2 ^ 32

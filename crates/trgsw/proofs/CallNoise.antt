@@ -3,12 +3,11 @@
 -- reported bound if the declared amplitudes hold. All bounds are exact numbers, above 2^31 too.
 -- Assumes nothing.
 use mathlib.Core.Path.{_≡_, ap, _∙_}
-use mathlib.Core.Bool.{cond}
 use mathlib.Core.List.{List}
 use Prim.Native.Nat.{ℕ, _*_, _^_, _≤_, _<_}
 use native.Mathlib.Nat.{mod-lt}
 use native.Mathlib.Omega.{arith}
-use lib.Dec.{eqb, lit<}
+use lib.Dec.{lit<}
 use lib.ListN.{length, getD}
 use Rattle.torus.specs.Sum.{sum}
 use Rattle.torus.specs.Word.{mul, distance}
@@ -126,7 +125,7 @@ cmux-call-charge N g L m A A₀ A₁ key block sample₀ sample₁ out sb e k lm
     (cmux-charge N 1 g L N m A (words key) (words block) (words sample₀) (words sample₁) (ok .lawful) (weight N key k) lm holds
     (words-word sample₀ sb) i l)
 
--- If the samples are within their declared amplitudes of f₀ and f₁, what is left is within the reported bound of the one that m names.
+-- "If the inputs are within A0 and A1, the output is within max(A0, A1) plus the charge", which is the reported bound.
 pub cmux-call-within : (N g L m A A₀ A₁ : ℕ) (key block sample₀ sample₁ out : List ℕ) (f₀ f₁ : ℕ → ℕ) → AreBytes sample₀
     → number (cmux N g L A A₀ A₁ block sample₀ sample₁ out) ≡ 0
     → Key N 1 key → m ≤ 1 → Holds N 1 g L m A (words key) (words block)
@@ -134,7 +133,7 @@ pub cmux-call-within : (N g L m A A₀ A₁ : ℕ) (key block sample₀ sample�
     → ((i : ℕ) → i < N → distance (phase N 1 (words key) (words sample₀) i) (f₀ i) ≤ A₀)
     → ((i : ℕ) → i < N → distance (phase N 1 (words key) (words sample₁) i) (f₁ i) ≤ A₁)
     → (i : ℕ) → i < N
-    → distance (phase N 1 (words key) (words (cmuxOut N g L A A₀ A₁ block sample₀ sample₁ out)) i) (cond (eqb m 0) f₀ f₁ i)
+    → distance (phase N 1 (words key) (words (cmuxOut N g L A A₀ A₁ block sample₀ sample₁ out)) i) (picked m f₀ f₁ i)
     ≤ bound (cmux N g L A A₀ A₁ block sample₀ sample₁ out)
 cmux-call-within N g L m A A₀ A₁ key block sample₀ sample₁ out f₀ f₁ sb e k lm holds w₀ w₁ h₀ h₁ i l =
     let ok : Pickable N g L A A₀ A₁ block sample₀ sample₁ out = cmux-accepted N g L A A₀ A₁ block sample₀ sample₁ out e in

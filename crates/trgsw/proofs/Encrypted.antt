@@ -1,11 +1,11 @@
 -- An encrypted block holds its bit: within the greatest magnitude of its errors, under every key, for k masks and every gadget.
 -- Assumes nothing.
-use mathlib.Core.Path.{_≡_, refl, ap, ap₂, sym, _∙_, fun-ext}
-use mathlib.Core.Logic.{_⊎_, inl, inr, _≢_}
+use mathlib.Core.Path.{_≡_, refl, ap, sym, _∙_}
+use mathlib.Core.Logic.{_≢_}
 use mathlib.Core.Bool.{cond}
 use mathlib.Core.List.{List}
 use Prim.Native.Nat.{ℕ, zero, suc, _+_, _*_, _/_, _^_, _≤_, _<_}
-use native.Mathlib.Nat.{add-zero, zero-add, zero-lt-suc, mul-zero, le-of-eq, le-trans, le-of-suc-le-suc, eq-or-lt-of-le, div-lt-iff-lt-mul}
+use native.Mathlib.Nat.{add-zero, zero-add, zero-lt-suc, mul-zero, le-of-eq, le-trans, div-lt-iff-lt-mul}
 use native.Mathlib.Decide.{ℕ-discrete}
 use native.Mathlib.Omega.{arith}
 use lib.Arith.{digits-div, digits-lt}
@@ -19,7 +19,7 @@ use Rattle.torus.proofs.Joined.{chunk-inside, chunk-at, length-chunk, chunk-joi
 use Rattle.torus.proofs.Near.{Near, near-path, near-sym, near-add, near-weaken, congruent-trans, near-congruent, congruent-add, near-mod}
 use Rattle.torus.proofs.Magnitudes.{near-distance, magnitude-near}
 use Rattle.ring.specs.Polynomial.{Agree}
-use Rattle.ring.proofs.Poly.{Poly, _⊕_, _⊙_, nil, psum, psum-suc, psum-cong, psum-nil, mul, mul-linear}
+use Rattle.ring.proofs.Poly.{Poly, _⊕_, _⊙_, nil, psum-only, mul, mul-linear}
 use Rattle.ring.proofs.Terms.{unit, mul-unit}
 use Rattle.ring.proofs.Close.{Close}
 use Rattle.trlwe.specs.Sample.{part, phase, encryption}
@@ -29,26 +29,6 @@ use Rattle.trgsw.proofs.Signed.{Sample, dot, dot-add, dot-congruent, we
 use Rattle.trgsw.proofs.Rows.{row-phase-near, row-phase-le}
 
 -- ---- a gadget row's phase
-
--- p + 0 = p and 0 + p = p.
-add-nil : (p : Poly) → p ⊕ nil ≡ p
-unfolding _⊕_ nil
-add-nil p = fun-ext λ k. add-zero (p k)
-
-nil-add : (p : Poly) → nil ⊕ p ≡ p
-unfolding _⊕_ nil
-nil-add p = fun-ext λ k. zero-add (p k)
-
--- One term more: it is the one, or the one is before it.
-only-suc : (n c : ℕ) (f : ℕ → Poly) → ((i : ℕ) → i ≢ c → f i ≡ nil) → (c < n → psum n f ≡ f c) → (c ≡ n) ⊎ (c < n) → psum n f ⊕ f n ≡ f c
-only-suc n c f h ih (inl e) =
-    ap (λ p. p ⊕ f n) (psum-cong n f (λ i. nil) (λ i l. h i (omega arith)) ∙ psum-nil n) ∙ nil-add (f n) ∙ ap f (sym e)
-only-suc n c f h ih (inr l) = ap₂ _⊕_ (ih l) (h n (omega arith)) ∙ add-nil (f c)
-
--- A sum with one term.
-psum-only : (n c : ℕ) (f : ℕ → Poly) → ((i : ℕ) → i ≢ c → f i ≡ nil) → c < n → psum n f ≡ f c
-psum-only zero c f h l = absurd (omega arith)
-psum-only (suc n) c f h l = psum-suc n f ∙ only-suc n c f h (psum-only n c f h) (eq-or-lt-of-le (le-of-suc-le-suc l))
 
 -- The gadget row for polynomial d: S in its constant coefficient.
 unfoldable constant : (S d : ℕ) → Sample

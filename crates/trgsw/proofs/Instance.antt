@@ -4,14 +4,15 @@
 use mathlib.Core.Path.{_≡_, refl, subst}
 use mathlib.Core.List.{List, [], _∷_}
 use Prim.Native.Nat.{ℕ, zero, suc, _+_, _*_, _^_, _≤_, _<_}
-use native.Mathlib.Nat.{le-trans, le-refl, mod-lt}
+use native.Mathlib.Nat.{le-trans, le-refl}
 use native.Mathlib.Omega.{arith}
 use lib.Count.{ones}
 use lib.Dec.{lit<, lit≤}
 use lib.ListN.{getD}
 use Rattle.torus.specs.Sum.{sum, tabulate, joined}
 use Rattle.torus.specs.Word.{mul, magnitude, distance}
-use Rattle.torus.specs.Bytes.{AreBytes, words, bytes}
+use Rattle.torus.specs.Bytes.{words, bytes}
+use Rattle.torus.proofs.Parts.{bytes-are}
 use Rattle.gadget.specs.Digits.{precision, rounded, digit}
 use Rattle.ring.specs.Polynomial.{product}
 use Rattle.answers.specs.Answers.{number, bound, gates, _orElse_, greatestMagnitude, after}
@@ -22,24 +23,14 @@ use Rattle.trgsw.specs.External.{external, difference, cmuxSample, charg
 use Rattle.trgsw.specs.Calls.{encryptSelector, encryptSelectorBlock, externalProduct, externalProductOut, cmux, cmuxOut}
 use Rattle.trgsw.proofs.CallNoise.{selector-holds, external-product-within, cmux-call-within}
 
--- Bytes of words are bytes.
-bytes-are : (ws : List ℕ) → AreBytes (bytes ws)
-unfolding bytes
-bytes-are [] i = lit< tt
-bytes-are (w ∷ ws) zero = mod-lt _ (lit< tt)
-bytes-are (w ∷ ws) (suc zero) = mod-lt _ (lit< tt)
-bytes-are (w ∷ ws) (suc (suc zero)) = mod-lt _ (lit< tt)
-bytes-are (w ∷ ws) (suc (suc (suc zero))) = mod-lt _ (lit< tt)
-bytes-are (w ∷ ws) (suc (suc (suc (suc i)))) = bytes-are ws i
-
 -- With N = 1 there is one coefficient.
 at-0 : (P : ℕ → Type 0) → P 0 → (i : ℕ) → i < 1 → P i
 at-0 P p zero l = p
 at-0 P p (suc i) l = absurd (omega arith)
 
--- Nothing is in a slice that is to be written.
-abbrev pub empty : List ℕ
-empty = bytes (0 ∷ 0 ∷ [])
+-- A slice for a sample, all 0.
+abbrev pub sampleRoom : List ℕ
+sampleRoom = bytes (0 ∷ 0 ∷ [])
 
 -- ---- job J
 
@@ -82,30 +73,30 @@ pub holds-J : Holds 1 1 16 2 1 7 (words keyJ) (words blockJ)
 holds-J r i lr li = le-trans (exact-J r i lr li) (lit≤ tt)
 
 -- The call is accepted, with the document's bound and gates.
-pub accepted-J : number (cmux 1 16 2 7 0 0 blockJ entry₀ entry₁ empty) ≡ 0
+pub accepted-J : number (cmux 1 16 2 7 0 0 blockJ entry₀ entry₁ sampleRoom) ≡ 0
 unfolding cmux _orElse_ charge precision bytes ones
 accepted-J = refl
 
-pub bound-J : bound (cmux 1 16 2 7 0 0 blockJ entry₀ entry₁ empty) ≡ 917504
+pub bound-J : bound (cmux 1 16 2 7 0 0 blockJ entry₀ entry₁ sampleRoom) ≡ 917504
 unfolding cmux _orElse_ charge precision bytes ones
 bound-J = refl
 
-pub gates-J : gates (cmux 1 16 2 7 0 0 blockJ entry₀ entry₁ empty) ≡ 1
+pub gates-J : gates (cmux 1 16 2 7 0 0 blockJ entry₀ entry₁ sampleRoom) ≡ 1
 unfolding cmux _orElse_ charge precision bytes ones
 gates-J = refl
 
 -- The result is entry 1.
-pub result-J : words (cmuxOut 1 16 2 7 0 0 blockJ entry₀ entry₁ empty) ≡ 0 ∷ 2147483648 ∷ []
+pub result-J : words (cmuxOut 1 16 2 7 0 0 blockJ entry₀ entry₁ sampleRoom) ≡ 0 ∷ 2147483648 ∷ []
 unfolding cmuxOut cmux _orElse_ after charge precision words bytes ones
     cmuxSample polynomials joined tabulate external difference sum product digit rounded
 result-J = refl
 
 -- The theorem applies: the phase is within the bound of what entry 1 says.
-pub within-J : distance (phase 1 1 (words keyJ) (words (cmuxOut 1 16 2 7 0 0 blockJ entry₀ entry₁ empty)) 0) (8 * 2 ^ 28) ≤ 917504
+pub within-J : distance (phase 1 1 (words keyJ) (words (cmuxOut 1 16 2 7 0 0 blockJ entry₀ entry₁ sampleRoom)) 0) (8 * 2 ^ 28) ≤ 917504
 unfolding words bytes phase masked sum product magnitude
 within-J =
-    subst (λ b. distance (phase 1 1 (words keyJ) (words (cmuxOut 1 16 2 7 0 0 blockJ entry₀ entry₁ empty)) 0) (8 * 2 ^ 28) ≤ b) bound-J
-    (cmux-call-within 1 16 2 1 7 0 0 keyJ blockJ entry₀ entry₁ empty (λ i. 3 * 2 ^ 28) (λ i. 8 * 2 ^ 28)
+    subst (λ b. distance (phase 1 1 (words keyJ) (words (cmuxOut 1 16 2 7 0 0 blockJ entry₀ entry₁ sampleRoom)) 0) (8 * 2 ^ 28) ≤ b) bound-J
+    (cmux-call-within 1 16 2 1 7 0 0 keyJ blockJ entry₀ entry₁ sampleRoom (λ i. 3 * 2 ^ 28) (λ i. 8 * 2 ^ 28)
     (bytes-are (0 ∷ 3 * 2 ^ 28 ∷ [])) accepted-J key-J (le-refl 1) holds-J (λ i l. lit< tt) (λ i l. lit< tt)
     (at-0 (λ i. distance (phase 1 1 (words keyJ) (words entry₀) i) (3 * 2 ^ 28) ≤ 0) (lit≤ tt))
     (at-0 (λ i. distance (phase 1 1 (words keyJ) (words entry₁) i) (8 * 2 ^ 28) ≤ 0) (lit≤ tt)) 0 (lit< tt))
@@ -120,27 +111,27 @@ masksE = bytes (5 ∷ 4294967291 ∷ 123456789 ∷ 4000000000 ∷ [])
 abbrev pub errorsE : List ℕ
 errorsE = bytes (1 ∷ 4294967293 ∷ 2 ∷ 0 ∷ [])
 
--- A slice for a block.
-abbrev pub room : List ℕ
-room = bytes (0 ∷ 0 ∷ 0 ∷ 0 ∷ 0 ∷ 0 ∷ 0 ∷ 0 ∷ [])
+-- A slice for a block, all 0.
+abbrev pub blockRoom : List ℕ
+blockRoom = bytes (0 ∷ 0 ∷ 0 ∷ 0 ∷ 0 ∷ 0 ∷ 0 ∷ 0 ∷ [])
 
 -- The block that the call leaves.
 abbrev pub blockE : List ℕ
-blockE = encryptSelectorBlock 1 16 2 1 keyJ masksE errorsE room
+blockE = encryptSelectorBlock 1 16 2 1 keyJ masksE errorsE blockRoom
 
 -- The call is accepted, and reports the greatest magnitude.
-pub accepted-E : number (encryptSelector 1 16 2 1 keyJ masksE errorsE room) ≡ 0
+pub accepted-E : number (encryptSelector 1 16 2 1 keyJ masksE errorsE blockRoom) ≡ 0
 unfolding encryptSelector _orElse_ words bytes ones allBelow
 accepted-E = refl
 
-pub bound-E : bound (encryptSelector 1 16 2 1 keyJ masksE errorsE room) ≡ 3
+pub bound-E : bound (encryptSelector 1 16 2 1 keyJ masksE errorsE blockRoom) ≡ 3
 unfolding encryptSelector _orElse_ words bytes ones allBelow greatestMagnitude magnitude
 bound-E = refl
 
 -- The block holds 1 within 3, by the theorem,
 pub holds-E : Holds 1 1 16 2 1 3 (words keyJ) (words blockE)
 holds-E = subst (λ b. Holds 1 1 16 2 1 b (words keyJ) (words blockE)) bound-E
-    (selector-holds 1 16 2 1 keyJ masksE errorsE room (bytes-are (1 ∷ 4294967293 ∷ 2 ∷ 0 ∷ [])) accepted-E)
+    (selector-holds 1 16 2 1 keyJ masksE errorsE blockRoom (bytes-are (1 ∷ 4294967293 ∷ 2 ∷ 0 ∷ [])) accepted-E)
 
 -- and not within 2: its row 1 has the error -3.
 pub noise-E : distance (phase 1 1 (words keyJ) (row 1 1 1 (words blockE)) 0) (rowPhase 1 1 16 2 1 (words keyJ) 1 0) ≡ 3
@@ -153,20 +144,20 @@ abbrev pub sampleE : List ℕ
 sampleE = bytes (7 ∷ (5 * 2 ^ 28 + 9) ∷ [])
 
 -- The external product of the block with the sample is accepted, with the amplitudes 3 and 2.
-pub product-accepted-E : number (externalProduct 1 16 2 3 2 blockE sampleE empty) ≡ 0
+pub product-accepted-E : number (externalProduct 1 16 2 3 2 blockE sampleE sampleRoom) ≡ 0
 unfolding encryptSelectorBlock encryptSelector externalProduct _orElse_ after charge precision words bytes ones allBelow
     encryptedBlock encryptedRow encryption body joined tabulate masked sum product
 product-accepted-E = refl
 
-pub product-bound-E : bound (externalProduct 1 16 2 3 2 blockE sampleE empty) ≡ 393218
+pub product-bound-E : bound (externalProduct 1 16 2 3 2 blockE sampleE sampleRoom) ≡ 393218
 unfolding encryptSelectorBlock encryptSelector externalProduct _orElse_ after charge precision words bytes ones allBelow
     encryptedBlock encryptedRow encryption body joined tabulate masked sum product
 product-bound-E = refl
 
 -- The external product with it is within its bound of 5·2^28, by the theorem.
-pub product-within-E : distance (phase 1 1 (words keyJ) (words (externalProductOut 1 16 2 3 2 blockE sampleE empty)) 0) (mul 1 (5 * 2 ^ 28))
-    ≤ bound (externalProduct 1 16 2 3 2 blockE sampleE empty)
+pub product-within-E : distance (phase 1 1 (words keyJ) (words (externalProductOut 1 16 2 3 2 blockE sampleE sampleRoom)) 0) (mul 1 (5 * 2 ^ 28)) ≤ 393218
 unfolding words bytes phase masked sum product magnitude
 product-within-E =
-    external-product-within 1 16 2 1 3 2 keyJ blockE sampleE empty (λ i. 5 * 2 ^ 28) product-accepted-E key-J (le-refl 1) holds-E
-    (λ i l. lit< tt) (at-0 (λ i. distance (phase 1 1 (words keyJ) (words sampleE) i) (5 * 2 ^ 28) ≤ 2) (lit≤ tt)) 0 (lit< tt)
+    subst (λ b. distance (phase 1 1 (words keyJ) (words (externalProductOut 1 16 2 3 2 blockE sampleE sampleRoom)) 0) (mul 1 (5 * 2 ^ 28)) ≤ b) product-bound-E
+    (external-product-within 1 16 2 1 3 2 keyJ blockE sampleE sampleRoom (λ i. 5 * 2 ^ 28) product-accepted-E key-J (le-refl 1) holds-E
+    (λ i l. lit< tt) (at-0 (λ i. distance (phase 1 1 (words keyJ) (words sampleE) i) (5 * 2 ^ 28) ≤ 2) (lit≤ tt)) 0 (lit< tt))

@@ -1,5 +1,5 @@
 pub mod Charges
-pub mod Written
+pub mod Accumulated
 pub mod OneMask
 pub mod Accepted
 pub mod Signed

@@ -1,17 +1,17 @@
 -- What the external product and the CMux do to the noise, on lists of words: for k masks, every lawful gadget, and every key whose
 -- words add up to at most W. Their results are within the charge of what they should be, in every coefficient of the phase.
 -- Assumes nothing.
-use mathlib.Core.Bool.{cond}
 use mathlib.Core.List.{List}
 use Prim.Native.Nat.{ℕ, zero, suc, _+_, _*_, _^_, _≤_, _<_, max}
 use native.Mathlib.Nat.{le-refl, le-of-eq, le-of-lt, add-comm, one-mul, mod-lt, mul-le-mul, le-max-left, le-max-right, le-trans}
 use native.Mathlib.Omega.{arith}
 use lib.Arith.{digits-lt}
-use lib.Dec.{eqb, lit<}
+use lib.Dec.{lit<}
 use lib.ListN.{getD}
 use borrow.Author.Tests.{ne-eqb}
 use Rattle.torus.specs.Sum.{sum}
 use Rattle.torus.specs.Word.{add, mul, distance}
+use Rattle.torus.proofs.Sums.{ones-le}
 use Rattle.torus.proofs.Lists.{tabulate-at}
 use Rattle.torus.proofs.Near.{Near, near-refl, near-path, near-sym, near-trans, near-weaken, near-scale, congruent-trans, near-congruent, congruent-add, congruent-scale, near-mod, sub-near}
 use Rattle.torus.proofs.Magnitudes.{near-distance, distance-near}
@@ -20,6 +20,7 @@ use Rattle.ring.specs.Polynomial.{coefficients}
 use Rattle.ring.proofs.Poly.{_⊕_, _⊙_}
 use Rattle.ring.proofs.Close.{Close, close-sym, close-weaken}
 use Rattle.trlwe.specs.Sample.{part, phase}
+use Rattle.trlwe.proofs.Phases.{phase-le}
 use Rattle.trgsw.specs.Block.{Holds}
 use Rattle.trgsw.specs.External.{external, externalSample, difference, cmuxSample, picked, charge}
 use Rattle.trgsw.proofs.Signed.{dot-congruent, weights, signed-weight, signedKey, signedPhase, phase-signed}
@@ -102,11 +103,6 @@ cmux-near N k g L W m A K block x₀ x₁ ok heavy lm holds word i l =
     (congruent-scale m (difference-signed N k K x₀ x₁ word j lj))) i l)
     (picked-near N k m K x₀ x₁ i l))
 
--- A phase is a word.
-phase-le : (N k : ℕ) (K x : List ℕ) (i : ℕ) → phase N k K x i ≤ 2 ^ 32
-unfolding phase
-phase-le N k K x i = le-of-lt (mod-lt _ (lit< tt))
-
 -- The same as a distance of words.
 pub cmux-charge : (N k g L W m A : ℕ) (K block x₀ x₁ : List ℕ)
     → Lawful g L → sum (k * N) (coefficients K) ≤ W → m ≤ 1 → Holds N k g L m A K block → ((t : ℕ) → getD x₀ t 0 < 2 ^ 32)
@@ -117,21 +113,21 @@ cmux-charge N k g L W m A K block x₀ x₁ ok heavy lm holds word i l =
 -- Of two samples within A₀ of f₀ and within A₁ of f₁, the one that the bit names is within the greater of the message that it names.
 picked-within : (N k m A₀ A₁ : ℕ) (K x₀ x₁ : List ℕ) (f₀ f₁ : ℕ → ℕ)
     → Close (2 ^ 32) N A₀ (phase N k K x₀) f₀ → Close (2 ^ 32) N A₁ (phase N k K x₁) f₁
-    → Close (2 ^ 32) N (max A₀ A₁) (phase N k K (picked m x₀ x₁)) (cond (eqb m 0) f₀ f₁)
+    → Close (2 ^ 32) N (max A₀ A₁) (phase N k K (picked m x₀ x₁)) (picked m f₀ f₁)
 picked-within N k zero A₀ A₁ K x₀ x₁ f₀ f₁ h₀ h₁ = close-weaken (le-max-left A₀ A₁) h₀
 picked-within N k (suc m) A₀ A₁ K x₀ x₁ f₀ f₁ h₀ h₁ = rw (ne-eqb (suc m) 0 (omega arith)) (close-weaken (le-max-right A₀ A₁) h₁)
 
 -- The message that the bit names is one of two lists of words.
-picked-le : (m i : ℕ) (f₀ f₁ : ℕ → ℕ) → f₀ i < 2 ^ 32 → f₁ i < 2 ^ 32 → cond (eqb m 0) f₀ f₁ i ≤ 2 ^ 32
+picked-le : (m i : ℕ) (f₀ f₁ : ℕ → ℕ) → f₀ i < 2 ^ 32 → f₁ i < 2 ^ 32 → picked m f₀ f₁ i ≤ 2 ^ 32
 picked-le zero i f₀ f₁ w₀ w₁ = le-of-lt w₀
 picked-le (suc m) i f₀ f₁ w₀ w₁ = rw (ne-eqb (suc m) 0 (omega arith)) (le-of-lt w₁)
 
--- If the samples are within A₀ of f₀ and within A₁ of f₁, the result is within the greater plus the charge of the one that m names.
+-- "If the inputs are within A0 and A1, the output is within max(A0, A1) plus the charge": of f₀ and f₁, and of the one that m names.
 pub cmux-within : (N k g L W m A A₀ A₁ : ℕ) (K block x₀ x₁ : List ℕ) (f₀ f₁ : ℕ → ℕ)
     → Lawful g L → sum (k * N) (coefficients K) ≤ W → m ≤ 1 → Holds N k g L m A K block → ((t : ℕ) → getD x₀ t 0 < 2 ^ 32)
     → ((i : ℕ) → i < N → f₀ i < 2 ^ 32) → ((i : ℕ) → i < N → f₁ i < 2 ^ 32)
     → ((i : ℕ) → i < N → distance (phase N k K x₀ i) (f₀ i) ≤ A₀) → ((i : ℕ) → i < N → distance (phase N k K x₁ i) (f₁ i) ≤ A₁)
-    → (i : ℕ) → i < N → distance (phase N k K (cmuxSample N k g L block x₀ x₁) i) (cond (eqb m 0) f₀ f₁ i) ≤ max A₀ A₁ + charge N k g L W A
+    → (i : ℕ) → i < N → distance (phase N k K (cmuxSample N k g L block x₀ x₁) i) (picked m f₀ f₁ i) ≤ max A₀ A₁ + charge N k g L W A
 cmux-within N k g L W m A A₀ A₁ K block x₀ x₁ f₀ f₁ ok heavy lm holds word w₀ w₁ h₀ h₁ i l =
     near-distance (picked-le m i f₀ f₁ (w₀ i l) (w₁ i l))
     (near-weaken (le-of-eq (add-comm (charge N k g L W A) (max A₀ A₁)))
@@ -140,12 +136,6 @@ cmux-within N k g L W m A A₀ A₁ K block x₀ x₁ f₀ f₁ ok heavy lm hold
     (λ j lj. near-weaken (h₁ j lj) (distance-near (le-of-lt (w₁ j lj)))) i l)))
 
 -- ---- the key
-
--- A sum of 0s and 1s is at most the number of its terms.
-ones-le : (n : ℕ) (f : ℕ → ℕ) → ((i : ℕ) → i < n → f i ≤ 1) → sum n f ≤ n
-unfolding sum
-ones-le zero f h = le-refl 0
-ones-le (suc n) f h = omega (arith, ones-le n f (λ i l. h i (omega arith)), h n (omega arith))
 
 -- The words of a key of 0s and 1s add up to at most their number.
 pub key-weight : (N k : ℕ) (K : List ℕ) → ((t : ℕ) → t < k * N → getD K t 0 ≤ 1) → sum (k * N) (coefficients K) ≤ k * N

@@ -10,11 +10,15 @@ use native.Mathlib.Omega.{arith}
 use lib.Arith.{digits-div, digits-mod}
 use lib.Dec.{eqb}
 use lib.ListN.{getD}
+use Rattle.torus.specs.Sum.{sum}
 use Rattle.torus.specs.Word.{sub, mul}
+use Rattle.torus.proofs.Sums.{sum-cong, sum-append}
 use Rattle.gadget.specs.Digits.{step, precision, digit}
+use Rattle.ring.specs.Polynomial.{product}
+use Rattle.ring.proofs.Terms.{product-agree}
 use Rattle.trlwe.specs.Sample.{part}
-use Rattle.trgsw.specs.Block.{component, place, gadgetRow, rowPhase}
-use Rattle.trgsw.specs.External.{rowDigits, charge}
+use Rattle.trgsw.specs.Block.{row, component, place, gadgetRow, rowPhase}
+use Rattle.trgsw.specs.External.{rowDigits, external, charge}
 
 -- "Its charge is 2·L·N·2^(g-1)·A + (1 + N)·E."
 pub charge-one : (N g L A : ℕ) → charge N 1 g L N A ≡ 2 * L * N * 2 ^ (g - 1) * A + (1 + N) * precision g L
@@ -60,3 +64,19 @@ digits-body N g L x j i l =
     let row = body-row L j l in
     ap₂ (λ c p. digit g L (part N x c i) p) (row .0) (row .1)
     ∙ ap (λ t. digit g L (getD x t 0) (suc j)) {x = 1 * N + i} {y = N + i} (omega arith)
+
+-- "The external product of a block with a sample is the sum over rows of digit polynomial times row": the first L rows with the
+-- mask's digits, and the last L with the body's.
+pub external-one : (N g L : ℕ) (block x : List ℕ) (c i : ℕ) → i < N
+    → external N 1 g L block x c i
+    ≡ (sum L (λ j. product N (λ t. digit g L (getD x t 0) (suc j)) (part N (row N 1 j block) c) i)
+    + sum L (λ j. product N (λ t. digit g L (getD x (N + t) 0) (suc j)) (part N (row N 1 (L + j) block) c) i)) % 2 ^ 32
+unfolding external
+external-one N g L block x c i l =
+    let term : ℕ → ℕ = λ r. product N (rowDigits N g L x r) (part N (row N 1 r block) c) i in
+    ap (λ n. sum n term % 2 ^ 32) {x = 2 * L} {y = L + L} (omega arith)
+    ∙ ap (λ s. s % 2 ^ 32)
+    (sum-append L L term
+    ∙ ap₂ _+_
+    (sum-cong L _ _ (λ j lj. product-agree N (λ t lt. digits-mask N g L x j t lj) (λ t lt. refl) i l))
+    (sum-cong L _ _ (λ j lj. product-agree N (λ t lt. digits-body N g L x j t lj) (λ t lt. refl) i l)))

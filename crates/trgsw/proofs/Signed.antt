@@ -5,9 +5,9 @@ use mathlib.Core.Path.{_≡_, ap, ap₂, sym, _∙_}
 use mathlib.Core.Logic.{_⊎_, inl, inr}
 use mathlib.Core.Bool.{cond}
 use mathlib.Core.List.{List}
-use Prim.Native.Nat.{ℕ, suc, _+_, _*_, _^_, _≤_, _<_}
-use native.Mathlib.Nat.{le-refl, le-of-eq, le-of-lt, one-mul, mul-zero, add-comm, mod-lt, eq-or-lt-of-le, le-of-suc-le-suc}
-use lib.Dec.{ltb, lit<}
+use Prim.Native.Nat.{ℕ, suc, _+_, _*_, _^_, _<_}
+use native.Mathlib.Nat.{le-refl, le-of-eq, one-mul, mul-zero, add-comm, eq-or-lt-of-le, le-of-suc-le-suc}
+use lib.Dec.{ltb}
 use borrow.Author.Tests.{lt-ltb, le-ltb}
 use Rattle.torus.specs.Sum.{sum}
 use Rattle.torus.proofs.Sums.{sum-cong, sum-const}
@@ -17,6 +17,7 @@ use Rattle.ring.proofs.Poly.{Poly, _⊕_, _⊙_, psum, psum-cong, psum-linear, 
 use Rattle.ring.proofs.Terms.{unit, mul-unit, mul-swap, product-mul}
 use Rattle.ring.proofs.Close.{Close, close-weaken, close-from, close-to, close-neg, close-psum, mul-close-weight}
 use Rattle.trlwe.specs.Sample.{part, masked, phase}
+use Rattle.trlwe.proofs.Phases.{masked-le}
 
 -- The polynomials of a sample: the masks first, and then the body.
 abbrev pub Sample : Type 0
@@ -137,11 +138,6 @@ signedKey N k K = signed 4294967295 k (part N K)
 -- The phase of a list of words as such a sum.
 abbrev pub signedPhase : (N k : ℕ) (K : List ℕ) → Sample → Poly
 signedPhase N k K = dot 4294967295 N (suc k) (signedKey N k K)
-
--- a·K is a word.
-masked-le : (N k : ℕ) (K x : List ℕ) (i : ℕ) → masked N k K x i ≤ 2 ^ 32
-unfolding masked
-masked-le N k K x i = le-of-lt (mod-lt _ (lit< tt))
 
 -- a·K is congruent to the sum of the products.
 masked-near : (N k : ℕ) (K x : List ℕ) → Close (2 ^ 32) N 0 (masked N k K x) (psum k (λ c. mul 4294967295 N (part N K c) (part N x c)))

@@ -35,8 +35,8 @@ unfoldable pub cmuxSample : (N k g L : ℕ) (block x₀ x₁ : List ℕ) → Lis
 cmuxSample N k g L block x₀ x₁ =
     polynomials N (suc k) (λ c i. add (part N x₀ c i) (external N k g L block (difference (suc k * N) x₁ x₀) c i))
 
--- The sample that the bit m names.
-abbrev pub picked : (m : ℕ) (x₀ x₁ : List ℕ) → List ℕ
+-- The one of two samples, or messages, that the bit m names.
+abbrev pub picked {ℓ} : {S : Type ℓ} (m : ℕ) (x₀ x₁ : S) → S
 picked m x₀ x₁ = cond (eqb m 0) x₀ x₁
 
 -- "Its charge is 2·L·N·2^(g-1)·A + (1 + N)·E." This is for k = 1 and a key of up to N ones; here for k masks and up to W ones.
@@ -44,7 +44,7 @@ picked m x₀ x₁ = cond (eqb m 0) x₀ x₁
 unfoldable pub charge : (N k g L W A : ℕ) → ℕ
 charge N k g L W A = suc k * L * N * half g * A + (1 + W) * precision g L
 
--- What the code asks of the numbers of a charge, so that 64 bits hold it. The public calls meet it, and so do up to four masks.
+-- What the code asks of the numbers of a charge, so that 64 bits hold it. The public calls meet it, and so would calls with up to four masks.
 pub record Chargeable (N k g L W A : ℕ) : Type 0 where
   pub lawful : Lawful g L
   pub degree : N ≤ 1024

@@ -2,10 +2,11 @@
 -- Assumes nothing.
 use mathlib.Core.Path.{_≡_, refl, ap, ap₂, sym, _∙_}
 use mathlib.Core.List.{List, _++_}
-use Prim.Native.Nat.{ℕ, _+_, _*_, _%_, _^_, _<_}
-use native.Mathlib.Nat.{mod-mod, mul-zero, zero-add}
+use Prim.Native.Nat.{ℕ, _+_, _*_, _%_, _^_, _≤_, _<_}
+use native.Mathlib.Nat.{le-of-lt, mod-lt, mod-mod, mul-zero, zero-add}
 use native.Mathlib.Omega.{arith}
 use lib.Arith.{digits-lt}
+use lib.Dec.{lit<}
 use lib.ListN.{length, getD, replicate, length-replicate, getD-replicate, List·getD-append}
 use lib.Seq.{getD-append-add}
 use Rattle.torus.specs.Sum.{sum, tabulate}
@@ -26,6 +27,16 @@ phase-one N K sample i l =
     let mask : Agree N (part N sample 0) (coefficients sample) = λ j m. ap (λ x. getD sample x 0) {x = 0 * N + j} {y = j} (omega arith) in
     ap₂ sub (ap (λ x. getD sample x 0) {x = 1 * N + i} {y = N + i} (omega arith))
     (ap (λ x. x % 2 ^ 32) (zero-add _ ∙ product-agree N key mask i l) ∙ mod-mod _ (2 ^ 32))
+
+-- a·K is a word.
+pub masked-le : (N k : ℕ) (K x : List ℕ) (i : ℕ) → masked N k K x i ≤ 2 ^ 32
+unfolding masked
+masked-le N k K x i = le-of-lt (mod-lt _ (lit< tt))
+
+-- A phase is a word.
+pub phase-le : (N k : ℕ) (K x : List ℕ) (i : ℕ) → phase N k K x i ≤ 2 ^ 32
+unfolding phase
+phase-le N k K x i = le-of-lt (mod-lt _ (lit< tt))
 
 -- a·K depends on the words of the masks alone.
 masked-agree : (N k : ℕ) (K a b : List ℕ) → ((t : ℕ) → t < k * N → getD a t 0 ≡ getD b t 0) → Agree N (masked N k K a) (masked N k K b)

@@ -8,7 +8,7 @@ use Rattle.torus.specs.Bytes.{words}
 use Rattle.torus.proofs.Parts.{length-words, words-word}
 use Rattle.ring.proofs.Degrees.{degree-pos}
 use Rattle.trgsw.specs.External.{external}
-use Rattle.trgsw.proofs.Written.{Summed, summed-none, summed-more, rows-fit}
+use Rattle.trgsw.proofs.Accumulated.{Accumulated, accumulated-none, accumulated-more, rows-fit}
 use borrow.Author.Needs.{needs}
 use Rattle.trgsw.proofs.external.add_external_in.Statement.{statement}
 use Rattle.trgsw.proofs.external.add_external_in.Tie as tie
@@ -16,7 +16,7 @@ use Rattle.trgsw.proofs.external.add_external_in.Tie as tie
 abbrev Inv-loop : tie.InvT-loop
 Inv-loop out₀ room₀ block x k n g l rows r₀ out room r =
     (r ≤ suc k * l) × (length out ≡ length out₀) × (length room ≡ length room₀)
-    × Summed n k g l (words block) (words x) r (words out₀) (words out)
+    × Accumulated n k g l (words block) (words x) r (words out₀) (words out)
 
 abbrev μ-loop : tie.MeasureT-loop
 μ-loop out₀ room₀ block x k n g l rows r₀ out room r = suc k * l - r
@@ -37,7 +37,7 @@ loop-holds c =
       omega arith,
       refl,
       refl,
-      summed-none (s .n) (s .k) (s .g) (s .l) (words (s .block .now)) (words (s .x .now)) (words (s .out .now)) (degree-pos (s .n) (c .before .before .before .before .pre .0))
+      accumulated-none (s .n) (s .k) (s .g) (s .l) (words (s .block .now)) (words (s .x .now)) (words (s .out .now)) (degree-pos (s .n) (c .before .before .before .before .pre .0))
           (omega (arith, length-words (s .out .now))) (words-word _ (λ i. c .before .before .before .slice-known .given i .fits)),
     )
 
@@ -57,7 +57,7 @@ loop-again c =
       omega arith,
       omega arith,
       omega arith,
-      summed-more (s .n) (s .k) (s .g) (s .l) (words (s .block .now)) (words (s .x .now)) (at .r) (words (s .out .now)) (words (at .out)) _ (at .inv .3)
+      accumulated-more (s .n) (s .k) (s .g) (s .l) (words (s .block .now)) (words (s .x .now)) (at .r) (words (s .out .now)) (words (at .out)) _ (at .inv .3)
           (c .before .before .before .before .add-term .ensures),
     )
 

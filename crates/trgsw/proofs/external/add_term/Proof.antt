@@ -16,7 +16,7 @@ use Rattle.ring.specs.Polynomial.{addProduct}
 use Rattle.trgsw.specs.Block.{row}
 use Rattle.trgsw.specs.External.{rowDigits}
 use Rattle.trgsw.proofs.Encrypted.{component-lt}
-use Rattle.trgsw.proofs.Written.{row-digits}
+use Rattle.trgsw.proofs.Accumulated.{row-digits}
 use borrow.Author.Needs.{needs}
 use Rattle.trgsw.proofs.external.add_term.Statement.{statement}
 use Rattle.trgsw.proofs.external.add_term.Tie as tie

@@ -7,7 +7,7 @@ use Rattle.answers.specs.Answers.{number}
 use Rattle.answers.proofs.Laws.{after-refused, after-accepted}
 use Rattle.trgsw.specs.Calls as Calls
 use Rattle.trgsw.proofs.Accepted.{Multipliable, external-accepted}
-use Rattle.trgsw.proofs.Written.{cleared-made}
+use Rattle.trgsw.proofs.Accumulated.{cleared-made}
 use borrow.Author.Needs.{needs}
 use Rattle.trgsw.proofs.external.external_product.Statement.{statement}
 use Rattle.trgsw.proofs.external.external_product.Tie as tie

@@ -11,7 +11,7 @@ use Rattle.gadget.specs.Digits.{step}
 use Rattle.gadget.proofs.Bounds.{count-le}
 use Rattle.gadget.proofs.Places.{room-at}
 use Rattle.trgsw.specs.Block.{scaledStep}
-use Rattle.trgsw.proofs.Written.{added-at}
+use Rattle.trgsw.proofs.Accumulated.{added-at}
 use borrow.Author.Needs.{needs}
 use Rattle.trgsw.proofs.selector.add_gadget.Statement.{statement}
 use Rattle.trgsw.proofs.selector.add_gadget.Tie as tie

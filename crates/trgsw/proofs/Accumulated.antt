@@ -42,13 +42,13 @@ added-at n at w l size inside word =
 -- ---- sums over rows
 
 -- The external product over the first r rows, added to the sample o.
-abbrev pub Summed : (N k g L : ℕ) (block x : List ℕ) (r : ℕ) (o out : List ℕ) → Type 0
-Summed N k g L block x r o out =
+abbrev pub Accumulated : (N k g L : ℕ) (block x : List ℕ) (r : ℕ) (o out : List ℕ) → Type 0
+Accumulated N k g L block x r o out =
     out ≡ polynomials N (suc k) (λ c i. add (part N o c i) (sum r (λ q. product N (rowDigits N g L x q) (part N (row N k q block) c) i) % 2 ^ 32))
 
-pub summed-none : (N k g L : ℕ) (block x o : List ℕ) → 0 < N → length o ≡ suc k * N → ((t : ℕ) → getD o t 0 < 2 ^ 32) → Summed N k g L block x 0 o o
+pub accumulated-none : (N k g L : ℕ) (block x o : List ℕ) → 0 < N → length o ≡ suc k * N → ((t : ℕ) → getD o t 0 < 2 ^ 32) → Accumulated N k g L block x 0 o o
 unfolding sum
-summed-none N k g L block x o pos size word =
+accumulated-none N k g L block x o pos size word =
     sym (polynomials-cong N (suc k) _ (part N o) (λ c i lc li. ap (λ w. w % 2 ^ 32) (add-zero (part N o c i)) ∙ mod-eq-of-lt (word (c * N + i)))
     ∙ polynomials-self N (suc k) o pos size)
 
@@ -59,11 +59,11 @@ unfolding digitPolynomial
 row-digits N g L j r p q x ep eq ej = tabulate-cong N _ _ (λ i l. ap₂ (digit g L) (part-lent N (r / L) p q x ep eq i l) ej)
 
 -- One row more.
-pub summed-more : (N k g L : ℕ) (block x : List ℕ) (r : ℕ) (o out out′ : List ℕ) → Summed N k g L block x r o out
+pub accumulated-more : (N k g L : ℕ) (block x : List ℕ) (r : ℕ) (o out out′ : List ℕ) → Accumulated N k g L block x r o out
     → out′ ≡ joined (suc k) (λ c. addProduct N (chunk N c out) (tabulate N (rowDigits N g L x r)) (chunk N c (row N k r block)))
-    → Summed N k g L block x (r + 1) o out′
+    → Accumulated N k g L block x (r + 1) o out′
 unfolding addProduct polynomials sum
-summed-more N k g L block x r o out out′ h e =
+accumulated-more N k g L block x r o out out′ h e =
     e ∙ joined-cong (suc k) _ _ (λ c lc. tabulate-cong N _ _ (λ i li. turn c i lc li))
   where
     terms : (c i q : ℕ) → ℕ
