@@ -50,7 +50,7 @@ unfolding Calls.extract
 returns c = stopped _ _ _ (numbers (c .before)) (c .if1 .taken) ∙ first-orElse _ _ _
 
 mul-exact : tie.Need-mul-exact
-mul-exact c = omega (arith, lawful (c) .most)
+mul-exact c = omega (arith, lawful c .most)
 
 exact-requires : tie.Need-exact-requires
 exact-requires c κs = search needs

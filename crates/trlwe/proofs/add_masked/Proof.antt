@@ -1,19 +1,15 @@
 -- `trlwe::add_masked` meets its contract. The loop's invariant: a·K over the first c masks is added. Assumes nothing.
 use native.Mathlib.Omega.{arith}
 use mathlib.Core.Path.{_≡_, refl}
-use Prim.Native.Nat.{ℕ, _+_, _*_, _-_, _≤_, _<_}
-use native.Mathlib.Nat.{mul-le-mul-right, suc-mul}
+use Prim.Native.Nat.{_+_, _*_, _-_, _≤_, _<_}
 use lib.ListN.{length}
 use Rattle.torus.specs.Bytes.{words}
 use Rattle.torus.proofs.Parts.{length-words, words-word}
+use Rattle.torus.proofs.Joined.{chunk-inside}
 use Rattle.trlwe.proofs.Masks.{Added, added-none, added-more, key-small}
 use borrow.Author.Needs.{needs}
 use Rattle.trlwe.proofs.add_masked.Statement.{statement}
 use Rattle.trlwe.proofs.add_masked.Tie as tie
-
--- There is room for polynomial c of k.
-room : (c k n : ℕ) → c < k → c * n + n ≤ k * n
-room c k n l = omega (arith, mul-le-mul-right n l, suc-mul c n)
 
 abbrev Inv-loop : tie.InvT-loop
 Inv-loop out₀ key a k n size at₀ c₀ out at c =
@@ -27,7 +23,7 @@ inside : (c : tie.In-loop Inv-loop μ-loop) → let s = c .before .before .befor
 inside c =
     let s = c .before .before .before .before .before .args in
     let l : c .before .loop .c < s .k = omega arith in
-    omega (arith, room (c .before .loop .c) (s .k) (s .n) l)
+    omega (arith, chunk-inside (c .before .loop .c) (s .k) (s .n) l)
 
 mul-size : tie.Need-mul-size Inv-loop μ-loop
 mul-size c = search needs

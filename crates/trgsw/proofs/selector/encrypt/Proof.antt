@@ -68,7 +68,7 @@ mul-at : tie.Need-mul-at Inv-loop μ-loop
 mul-at c = omega (arith, inside c)
 
 add-write-row : tie.Need-add-write-row Inv-loop μ-loop
-add-write-row c = omega (arith, inside (c))
+add-write-row c = omega (arith, inside c)
 
 sub-write-row : tie.Need-sub-write-row Inv-loop μ-loop
 sub-write-row c = search needs
@@ -77,7 +77,7 @@ part-write-row-start : tie.Need-part-write-row-start Inv-loop μ-loop
 part-write-row-start c = search needs
 
 part-write-row-end : tie.Need-part-write-row-end Inv-loop μ-loop
-part-write-row-end c = omega (arith, inside (c))
+part-write-row-end c = omega (arith, inside c)
 
 write-row-requires : tie.Need-write-row-requires Inv-loop μ-loop
 write-row-requires c κs =
