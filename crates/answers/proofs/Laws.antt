@@ -134,6 +134,9 @@ count-met N s some most = simp (le-leb 1 s some, le-leb s N most)
 pub depth-held : (d : ℕ) → depth d ≡ 0 → d ≤ 10
 depth-held d e = leb-true d 10 (held (leb d 10) 0 3 e .0)
 
+pub depth-met : (d : ℕ) → d ≤ 10 → depth d ≡ 0
+depth-met d h = simp (le-leb d 10 h)
+
 pub position-held : (N p : ℕ) → position N p ≡ 0 → p < N
 position-held N p e = ltb-true p N (held (ltb p N) 0 3 e .0)
 
@@ -156,6 +159,11 @@ pub amplitudes-held : (As : List ℕ) → amplitudes As ≡ 0 → (i : ℕ) → 
 amplitudes-held As e i h =
     let low : getD As i 0 < 2 ^ 31 + 1 = all-below-at (2 ^ 31 + 1) As (held (allBelow (2 ^ 31 + 1) As) 0 5 e .0) i h in
     omega arith
+
+pub amplitudes-met : (As : List ℕ) → ((i : ℕ) → i < length As → getD As i 0 ≤ 2 ^ 31) → amplitudes As ≡ 0
+amplitudes-met As h =
+    let all : allBelow (2 ^ 31 + 1) As ≡ true = below-all (2 ^ 31 + 1) As (λ i l. let low : getD As i 0 ≤ 2 ^ 31 = h i l in omega arith) in
+    simp all
 
 pub classes-held : (M : ℕ) (cs : List ℕ) → classes M cs ≡ 0 → (i : ℕ) → i < length cs → getD cs i 0 < M
 classes-held M cs e = all-below-at M cs (held (allBelow M cs) 0 6 e .0)

@@ -2,7 +2,7 @@
 // `noise`, asks that the number of classes has been tested.
 ghost use mathlib.Core.Path.{_≡_};
 ghost use mathlib.Core.Bool.{cond};
-ghost use Prim.Native.Nat.{_*_, _≤_};
+ghost use Prim.Native.Nat.{_+_, _*_, _^_, _≤_, _<_};
 ghost use lib.ListN.{length, take};
 ghost use Rattle.torus.specs.Bytes.{words};
 ghost use Rattle.answers.specs.Checks as Checks;
@@ -12,6 +12,30 @@ ghost use Rattle.answers.specs.Answers as Answers;
 pub struct Ledger {
     pub bound: u64,
     pub gates: u64,
+}
+
+impl Ledger {
+    // One CMux more: its level's charge is added to the bound.
+    pub fn raise(self, charge: u64) -> Ledger
+        requires { ⌜ (self .bound + charge < 2 ^ 64) × (self .gates + 1 < 2 ^ 64) ⌝ }
+        ensures { λ r. ⌜ (r .bound ≡ self .bound + charge) × (r .gates ≡ self .gates + 1) ⌝ }
+    {
+        Ledger {
+            bound: self.bound + charge,
+            gates: self.gates + 1,
+        }
+    }
+
+    // For a branch that begins where this one began: a path goes through one of the two, so the bound is that of the start; the
+    // gates of both count.
+    pub fn beside(self, start: Ledger) -> Ledger
+        ensures { λ r. ⌜ (r .bound ≡ start .bound) × (r .gates ≡ self .gates) ⌝ }
+    {
+        Ledger {
+            bound: start.bound,
+            gates: self.gates,
+        }
+    }
 }
 
 pub enum Answer {

@@ -4,7 +4,7 @@
 use mathlib.Core.Path.{_≡_, sym, ap, _∙_, subst}
 use mathlib.Core.Logic.{inl, inr, ⊎-elim}
 use Prim.Native.Nat.{ℕ, suc, _+_, _-_, _*_, _/_, _%_, _^_, _≤_, _<_}
-use native.Mathlib.Nat.{lt-of-not-le, mul-comm, add-mul, two-pow-succ, div-add-mod', mod-lt, mod-eq-of-lt, mod-add-mod, add-mul-mod-self-right, eq-of-mul-eq-mul-right}
+use native.Mathlib.Nat.{lt-of-not-le, mul-le-mul, mul-le-mul-right, mul-comm, add-mul, two-pow-succ, div-add-mod', mod-lt, mod-eq-of-lt, mod-add-mod, add-mul-mod-self-right, eq-of-mul-eq-mul-right}
 use native.Mathlib.Decide.{decLe}
 use native.Mathlib.Omega.{arith}
 use lib.Pow.{pow-pos, pow-mono}
@@ -14,6 +14,7 @@ use Rattle.torus.proofs.Sums.{sum-cong}
 use Rattle.torus.proofs.Near.{Near, near-refl, near-path, near-sym, near-cancel, congruent-trans, congruent-add, near-mod, near-eq, eq-near}
 use Rattle.torus.proofs.Magnitudes.{near-magnitude}
 use Rattle.gadget.specs.Digits.{Lawful, step, precision, half, rounded, weighted, balance, offset, signed, digit, InRange}
+use Rattle.gadget.proofs.Bounds.{count-le}
 use Rattle.gadget.proofs.Rounding.{rounded-word, rounded-close, rounded-near, rounded-multiple}
 use Rattle.gadget.proofs.Places.{room-at, weighted-add, weighted-same, horner, by-horner, weighted-lt, horner-inj, place, places, place-word, place-low}
 
@@ -21,6 +22,19 @@ use Rattle.gadget.proofs.Places.{room-at, weighted-add, weighted-same, 
 
 pub half-le : (g : ℕ) → g ≤ 16 → half g ≤ 2 ^ 15
 half-le g h = pow-mono {i = g - 1} {j = 15} (omega arith)
+
+-- The greatest magnitudes of all digits add up to at most 2^16: with a base above 2^10 there are at most two.
+pub halves-le : (g L : ℕ) → Lawful g L → L * half g ≤ 2 ^ 16
+halves-le g L ok = go (decLe g 10)
+  where
+    go : Dec (g ≤ 10) → L * half g ≤ 2 ^ 16
+    go (yes h) =
+        let low : half g ≤ 2 ^ 9 = pow-mono {i = g - 1} {j = 9} (omega arith) in
+        omega (arith, mul-le-mul (count-le g L ok) low)
+    go (no n) =
+        let high : 11 ≤ g = lt-of-not-le n in
+        let two : L ≤ 2 = omega (arith, mul-le-mul-right L high, ok .room) in
+        omega (arith, mul-le-mul two (half-le g (ok .high)))
 
 half-twice : (g : ℕ) → 1 ≤ g → 2 ^ g ≡ half g + half g
 half-twice g h = let e : g ≡ suc (g - 1) = omega arith in ap (λ k. 2 ^ k) e ∙ two-pow-succ (g - 1)

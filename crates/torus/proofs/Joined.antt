@@ -7,11 +7,11 @@ use Prim.Native.Nat.{ℕ, zero, suc, _+_, _*_, _≤_, _<_}
 use native.Mathlib.Nat.{zero-mul, suc-mul, mul-le-mul-right, eq-or-lt-of-le, le-of-suc-le-suc}
 use native.Mathlib.Numerals.{add-one}
 use native.Mathlib.Omega.{arith}
-use lib.ListN.{length, getD, take, drop, length-append, length-drop, drop-of-length-le, List·getD-append}
+use lib.ListN.{length, getD, take, drop, length-append, length-take, length-drop, drop-of-length-le, List·getD-append}
 use lib.Seq.{ext-getD, getD-append-add, take-at, drop-at, drop-drop, getD-take, getD-drop, length-take-le}
 use Rattle.torus.specs.Sum.{joined, chunk}
 use Rattle.torus.specs.Bytes.{words}
-use Rattle.torus.proofs.Lists.{append-below}
+use Rattle.torus.proofs.Lists.{append-below, all-below}
 use Rattle.torus.proofs.Parts.{words-lent, words-back}
 
 -- Part c of n lies inside.
@@ -24,6 +24,12 @@ chunk-at m c l i h = getD-take m (drop (c * m) l) i 0 h ∙ getD-drop (c * m) l 
 
 pub length-chunk : (m c : ℕ) (l : List ℕ) → c * m + m ≤ length l → length (chunk m c l) ≡ m
 length-chunk m c l h = length-take-le m (drop (c * m) l) (omega (arith, length-drop (c * m) l))
+
+-- A part of a list has no greater elements.
+pub chunk-below : (m n c : ℕ) (l : List ℕ) → 0 < m → ((i : ℕ) → getD l i 0 < m) → (i : ℕ) → getD (chunk n c l) i 0 < m
+chunk-below m n c l some below =
+    all-below m (chunk n c l) some
+    (λ i h. let inside : i < n = omega (arith, length-take n (drop (c * n) l)) in rw (chunk-at n c l i inside) (below (c * n + i)))
 
 -- Parts of one length, as far as the n-th.
 abbrev pub Each : (n m : ℕ) → (ℕ → List ℕ) → Type 0

@@ -6,8 +6,9 @@ use mathlib.Core.List.{List, [], _∷_, _++_}
 use Prim.Native.Nat.{ℕ, zero, suc, _+_, _≤_, _<_}
 use native.Mathlib.Nat.{le-refl, le-of-suc-le-suc, eq-or-lt-of-le}
 use native.Mathlib.Numerals.{add-one}
+use native.Mathlib.Decide.{decLt}
 use native.Mathlib.Omega.{arith}
-use lib.ListN.{length, getD, take, set, replicate, length-set, drop-of-length-le}
+use lib.ListN.{length, getD, take, set, replicate, length-set, drop-of-length-le, List·getD-eq-default}
 use lib.Seq.{ext-getD, length-take-le, take-all, getD-take, set-split, getD-set-same, getD-set-other}
 use Rattle.torus.specs.Sum.{tabulate}
 
@@ -52,6 +53,14 @@ pub append-below : (m : ℕ) (s t : List ℕ) → ((i : ℕ) → getD s i 0 < m)
 append-below m [] t hs ht i = ht i
 append-below m (x ∷ s) t hs ht zero = hs 0
 append-below m (x ∷ s) t hs ht (suc i) = append-below m s t (λ j. hs (suc j)) ht i
+
+-- What is read behind the end of a list is 0.
+pub all-below : (m : ℕ) (l : List ℕ) → 0 < m → ((i : ℕ) → i < length l → getD l i 0 < m) → (i : ℕ) → getD l i 0 < m
+all-below m l some below i = go (decLt i (length l))
+  where
+    go : Dec (i < length l) → getD l i 0 < m
+    go (yes h) = below i h
+    go (no n) = let end : length l ≤ i = omega arith in rw (List·getD-eq-default l 0 end) some
 
 -- ---- loops
 

@@ -6,7 +6,7 @@ use Prim.Native.Nat.{ℕ, zero, suc, _+_, _*_, _/_, _%_, _^_, _≤_, _<_}
 use native.Mathlib.Nat.{add-zero, mod-lt}
 use native.Mathlib.Omega.{arith}
 use lib.Dec.{lit<}
-use lib.ListN.{length, getD, take, drop, set}
+use lib.ListN.{length, getD, take, drop, set, replicate}
 use lib.Seq.{length-take-le}
 use Rattle.torus.specs.Bytes.{AreBytes, word, words, bytes}
 
@@ -173,6 +173,14 @@ words-bytes (w ∷ ws) f =
     let d : w / 16777216 % 256 ≡ w / 16777216 = omega arith in
     let whole : word (w % 256) (w / 256 % 256) (w / 65536 % 256) (w / 16777216 % 256) ≡ w = omega arith in
     ap₂ _∷_ whole rest
+
+-- Words that are 0 are bytes that are 0.
+pub bytes-zero : (n : ℕ) → bytes (replicate n 0) ≡ replicate (4 * n) 0
+unfolding bytes
+bytes-zero zero = refl
+bytes-zero (suc n) =
+    let four : 4 * suc n ≡ suc (suc (suc (suc (4 * n)))) = omega arith in
+    rw (bytes-zero n, four)
 
 -- Bytes of words are bytes.
 pub bytes-are : (ws : List ℕ) → AreBytes (bytes ws)

@@ -4,7 +4,7 @@
 -- Assumes nothing.
 use mathlib.Core.Path.{_≡_, ap, _∙_}
 use mathlib.Core.List.{List}
-use Prim.Native.Nat.{ℕ, _*_, _^_, _≤_, _<_}
+use Prim.Native.Nat.{ℕ, suc, _*_, _^_, _≤_, _<_}
 use native.Mathlib.Nat.{mod-lt}
 use native.Mathlib.Omega.{arith}
 use lib.Dec.{lit<}
@@ -19,7 +19,7 @@ use Rattle.ring.specs.Polynomial.{coefficients}
 use Rattle.answers.specs.Answers.{number, bound, greatestMagnitude}
 use Rattle.answers.proofs.Laws.{greatest-at, after-written}
 use Rattle.trlwe.specs.Sample.{Key, phase}
-use Rattle.trlwe.proofs.Polynomials.{polynomials-below}
+use Rattle.trlwe.proofs.Polynomials.{length-polynomials, polynomials-below}
 use Rattle.trgsw.specs.Block.{encryptedRow, encryptedBlock, Holds}
 use Rattle.trgsw.specs.External.{external, externalSample, cmuxSample, picked, charge}
 use Rattle.trgsw.specs.Calls.{encryptSelector, encryptSelectorBlock, externalProduct, externalProductOut, cmux, cmuxOut}
@@ -54,9 +54,13 @@ unfolding externalProductOut
 external-words N g L A B block sample out e = ap words (after-written _ _ _ e) ∙ words-bytes _ (external-below N 1 g L _ _)
 
 -- and a CMux.
-cmux-below : (N k g L : ℕ) (block x₀ x₁ : List ℕ) (t : ℕ) → getD (cmuxSample N k g L block x₀ x₁) t 0 < 2 ^ 32
+pub cmux-below : (N k g L : ℕ) (block x₀ x₁ : List ℕ) (t : ℕ) → getD (cmuxSample N k g L block x₀ x₁) t 0 < 2 ^ 32
 unfolding cmuxSample
 cmux-below N k g L block x₀ x₁ = polynomials-below (2 ^ 32) _ _ _ (lit< tt) (λ c i. mod-lt _ (lit< tt))
+
+pub length-cmux : (N k g L : ℕ) (block x₀ x₁ : List ℕ) → length (cmuxSample N k g L block x₀ x₁) ≡ suc k * N
+unfolding cmuxSample
+length-cmux N k g L block x₀ x₁ = length-polynomials N (suc k) _
 
 cmux-words : (N g L A A₀ A₁ : ℕ) (block sample₀ sample₁ out : List ℕ) → number (cmux N g L A A₀ A₁ block sample₀ sample₁ out) ≡ 0
     → words (cmuxOut N g L A A₀ A₁ block sample₀ sample₁ out) ≡ cmuxSample N 1 g L (words block) (words sample₀) (words sample₁)
@@ -64,8 +68,8 @@ unfolding cmuxOut
 cmux-words N g L A A₀ A₁ block sample₀ sample₁ out e = ap words (after-written _ _ _ e) ∙ words-bytes _ (cmux-below N 1 g L _ _ _)
 
 -- A key's words add up to at most N.
-weight : (N : ℕ) (key : List ℕ) → Key N 1 key → sum (1 * N) (coefficients (words key)) ≤ N
-weight N key k = omega (arith, key-weight N 1 (words key) (k .bits))
+pub weight-one : (N : ℕ) (key : List ℕ) → Key N 1 key → sum (1 * N) (coefficients (words key)) ≤ N
+weight-one N key k = omega (arith, key-weight N 1 (words key) (k .bits))
 
 -- ---- encryption of a selector
 
@@ -94,7 +98,7 @@ pub external-product-charge : (N g L m A B : ℕ) (key block sample out : List �
 external-product-charge N g L m A B key block sample out e k lm holds i l =
     let ok : Multipliable N g L A B block sample out = external-accepted N g L A B block sample out e in
     rw (external-words N g L A B block sample out e)
-    (external-charge N 1 g L N m A (words key) (words block) (words sample) (ok .lawful) (weight N key k) lm holds i l)
+    (external-charge N 1 g L N m A (words key) (words block) (words sample) (ok .lawful) (weight-one N key k) lm holds i l)
 
 -- If the sample is within its declared amplitude of f, what is left is within the reported bound of m·f.
 pub external-product-within : (N g L m A B : ℕ) (key block sample out : List ℕ) (f : ℕ → ℕ)
@@ -107,7 +111,7 @@ pub external-product-within : (N g L m A B : ℕ) (key block sample out : List �
 external-product-within N g L m A B key block sample out f e k lm holds word near i l =
     let ok : Multipliable N g L A B block sample out = external-accepted N g L A B block sample out e in
     rw (external-words N g L A B block sample out e, external-accepts N g L A B block sample out ok)
-    (external-within N 1 g L N m A B (words key) (words block) (words sample) f (ok .lawful) (weight N key k) lm holds word near i l)
+    (external-within N 1 g L N m A B (words key) (words block) (words sample) f (ok .lawful) (weight-one N key k) lm holds word near i l)
 
 -- ---- the CMux
 
@@ -122,7 +126,7 @@ pub cmux-call-charge : (N g L m A A₀ A₁ : ℕ) (key block sample₀ sample�
 cmux-call-charge N g L m A A₀ A₁ key block sample₀ sample₁ out sb e k lm holds i l =
     let ok : Pickable N g L A A₀ A₁ block sample₀ sample₁ out = cmux-accepted N g L A A₀ A₁ block sample₀ sample₁ out e in
     rw (cmux-words N g L A A₀ A₁ block sample₀ sample₁ out e)
-    (cmux-charge N 1 g L N m A (words key) (words block) (words sample₀) (words sample₁) (ok .lawful) (weight N key k) lm holds
+    (cmux-charge N 1 g L N m A (words key) (words block) (words sample₀) (words sample₁) (ok .lawful) (weight-one N key k) lm holds
     (words-word sample₀ sb) i l)
 
 -- "If the inputs are within A0 and A1, the output is within max(A0, A1) plus the charge", which is the reported bound.
@@ -138,5 +142,5 @@ pub cmux-call-within : (N g L m A A₀ A₁ : ℕ) (key block sample₀ sample�
 cmux-call-within N g L m A A₀ A₁ key block sample₀ sample₁ out f₀ f₁ sb e k lm holds w₀ w₁ h₀ h₁ i l =
     let ok : Pickable N g L A A₀ A₁ block sample₀ sample₁ out = cmux-accepted N g L A A₀ A₁ block sample₀ sample₁ out e in
     rw (cmux-words N g L A A₀ A₁ block sample₀ sample₁ out e, cmux-accepts N g L A A₀ A₁ block sample₀ sample₁ out ok)
-    (cmux-within N 1 g L N m A A₀ A₁ (words key) (words block) (words sample₀) (words sample₁) f₀ f₁ (ok .lawful) (weight N key k) lm holds
+    (cmux-within N 1 g L N m A A₀ A₁ (words key) (words block) (words sample₀) (words sample₁) f₀ f₁ (ok .lawful) (weight-one N key k) lm holds
     (words-word sample₀ sb) w₀ w₁ h₀ h₁ i l)

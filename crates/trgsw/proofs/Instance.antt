@@ -24,7 +24,7 @@ use Rattle.trgsw.specs.Calls.{encryptSelector, encryptSelectorBlock, ext
 use Rattle.trgsw.proofs.CallNoise.{selector-holds, external-product-within, cmux-call-within}
 
 -- With N = 1 there is one coefficient.
-at-0 : (P : ℕ → Type 0) → P 0 → (i : ℕ) → i < 1 → P i
+pub at-0 : (P : ℕ → Type 0) → P 0 → (i : ℕ) → i < 1 → P i
 at-0 P p zero l = p
 at-0 P p (suc i) l = absurd (omega arith)
 

@@ -2,9 +2,9 @@
 -- Assumes nothing.
 use mathlib.Core.Path.{_≡_, refl, ap, ap₂, sym, _∙_}
 use mathlib.Core.List.{List, _++_, append-nil}
-use Prim.Native.Nat.{ℕ, _*_, _≤_}
+use Prim.Native.Nat.{ℕ, _*_, _^_, _≤_, _<_}
 use native.Mathlib.Omega.{arith}
-use lib.ListN.{length, getD, take, drop}
+use lib.ListN.{length, getD, take, drop, replicate, getD-replicate}
 use lib.Seq.{length-front, length-take-le, take-all, take-at, drop-at, drop-length}
 use Rattle.torus.specs.Sum.{tabulate}
 use Rattle.torus.specs.Word.{add}
@@ -40,3 +40,11 @@ pub message-made : (N k : ℕ) (K a e B ys : List ℕ) (f : ℕ → ℕ) → B �
 unfolding body
 message-made N k K a e B ys f eB h =
     h ∙ tabulate-cong N _ _ (λ i l. ap (λ x. add x (f i)) (ap (λ ws. getD ws i 0) eB ∙ tabulate-at N _ i l) ∙ omega arith)
+
+-- A message added to a body that is 0 makes it the message.
+pub trivial-made : (N : ℕ) (B ys : List ℕ) (f : ℕ → ℕ) → B ≡ replicate N 0 → ((i : ℕ) → f i < 2 ^ 32)
+    → ys ≡ tabulate N (λ i. add (getD B i 0) (f i)) → ys ≡ tabulate N f
+trivial-made N B ys f eB word h =
+    h ∙ tabulate-cong N _ _ (λ i l.
+    let below : f i < 2 ^ 32 = word i in
+    ap (λ x. add x (f i)) (ap (λ ws. getD ws i 0) eB ∙ getD-replicate {A = ℕ} N i 0 0 l) ∙ omega arith)

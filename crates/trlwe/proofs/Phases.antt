@@ -1,18 +1,18 @@
--- The phases of encryptions and of trivial samples.
+-- The phases of encryptions and of trivial samples, and what trivial samples are.
 -- Assumes nothing.
 use mathlib.Core.Path.{_≡_, refl, ap, ap₂, sym, _∙_}
 use mathlib.Core.List.{List, _++_}
-use Prim.Native.Nat.{ℕ, _+_, _*_, _%_, _^_, _≤_, _<_}
-use native.Mathlib.Nat.{le-of-lt, mod-lt, mod-mod, mul-zero, zero-add}
+use Prim.Native.Nat.{ℕ, suc, _+_, _*_, _%_, _^_, _≤_, _<_}
+use native.Mathlib.Nat.{le-of-lt, mod-lt, mod-mod, mul-zero, zero-add, suc-mul}
 use native.Mathlib.Omega.{arith}
 use lib.Arith.{digits-lt}
 use lib.Dec.{lit<}
-use lib.ListN.{length, getD, replicate, length-replicate, getD-replicate, List·getD-append}
+use lib.ListN.{length, getD, replicate, length-append, length-replicate, getD-replicate, List·getD-append}
 use lib.Seq.{getD-append-add}
 use Rattle.torus.specs.Sum.{sum, tabulate}
 use Rattle.torus.specs.Word.{add, sub}
 use Rattle.torus.proofs.Sums.{sum-cong, sum-const}
-use Rattle.torus.proofs.Lists.{tabulate-at}
+use Rattle.torus.proofs.Lists.{length-tabulate, tabulate-at, tabulate-const, tabulate-below, append-below}
 use Rattle.ring.specs.Polynomial.{coefficients, Agree, product}
 use Rattle.ring.proofs.Poly.{nil}
 use Rattle.ring.proofs.Terms.{product-agree, product-nil}
@@ -81,3 +81,18 @@ trivial-phase N k K f i l word =
     ap₂ sub (body-of N k a b size i ∙ tabulate-at N f i l)
     (masked-nil N k K (a ++ b) (λ t m. masks-of N k a b size t m ∙ getD-replicate {A = ℕ} (k * N) t 0 0 m) i l)
     ∙ omega arith
+
+-- A trivial sample has the length of a sample,
+pub length-trivial : (N k : ℕ) (f : ℕ → ℕ) → length (trivial N k f) ≡ suc k * N
+unfolding trivial
+length-trivial N k f =
+    length-append (replicate (k * N) 0) (tabulate N f)
+    ∙ ap₂ _+_ (length-replicate {A = ℕ} (k * N) 0) (length-tabulate N f) ∙ sym (suc-mul k N)
+
+-- and is of words if its message is.
+pub trivial-below : (N k : ℕ) (f : ℕ → ℕ) → ((i : ℕ) → f i < 2 ^ 32) → (u : ℕ) → getD (trivial N k f) u 0 < 2 ^ 32
+unfolding trivial
+trivial-below N k f word =
+    rw (← tabulate-const (k * N) 0)
+    (append-below (2 ^ 32) (tabulate (k * N) (λ i. 0)) (tabulate N f)
+    (tabulate-below (2 ^ 32) (k * N) (λ i. 0) (lit< tt) (λ i. lit< tt)) (tabulate-below (2 ^ 32) N f (lit< tt) word))

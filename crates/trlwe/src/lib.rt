@@ -113,6 +113,17 @@ fn encrypt(
     add_message(&mut sample[body..], classes, m, s, n);
 }
 
+// The trivial sample of s classes: masks 0, and the message as body.
+pub fn write_trivial(sample: &mut [u8], classes: &[u8], k: usize, n: usize, m: u64, s: usize)
+    requires { ⌜ (length (now sample) ≡ 4 * (k * n) + 4 * n) × ClassNumber m × (s ≤ n) × (length (now classes) ≡ 4 * s)
+        × ((i : ℕ) → i < s → getD (words (now classes)) i 0 < m) ⌝ }
+    ensures { λ _. ⌜ words (now (sample .exit)) ≡ Sample.trivial n k (Classes.message m s (words (now (classes .entry)))) ⌝ }
+{
+    let body = 4 * (k * n);
+    torus::clear_words(sample, sample.len() / 4);
+    add_message(&mut sample[body..], classes, m, s, n);
+}
+
 // What encrypt_classes answers.
 pub fn encrypt_classes_answer(
     n: u64,

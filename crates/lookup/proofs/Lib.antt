@@ -1,0 +1,9 @@
+pub mod Trees
+pub mod Noise
+pub mod Accepted
+pub mod PublicEntries
+pub mod Accuracy
+pub mod Instance
+pub mod Charges
+pub mod Runs
+pub mod Public
