@@ -21,7 +21,7 @@ static void rattle(void) {
 static void c_o3(void) { cmux_o3(N, G, L, block, sample0, sample1, room, out); }
 static void c_o2(void) { cmux_o2(N, G, L, block, sample0, sample1, room, out); }
 #ifdef FFT
-static void fft(void) { fft_cmux(sample0, sample1, out); }
+static void fft(void) { fft_cmux(0, sample0, sample1, out); }
 #endif
 
 // The last one rounds.
@@ -43,7 +43,7 @@ int main(void) {
     fill(sample0, 2 * N);
     fill(sample1, 2 * N);
 #ifdef FFT
-    fft_prepare(block);
+    fft_prepare(block, 1);
 #endif
     for (int v = 0; v < VARIANTS; v++) {
         memset(out, 0, sizeof out);
@@ -60,6 +60,6 @@ int main(void) {
     if (VARIANTS > EXACT)
         printf(", the transforms' differ by up to %u", (unsigned)distance);
     printf("\n");
-    measure(variants, VARIANTS);
+    measure(variants, VARIANTS, MOST_ROUNDS);
     return 0;
 }

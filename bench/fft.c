@@ -14,7 +14,7 @@ enum { H = N / 2, ROWS = 2 * L };
 
 typedef double complex number;
 
-static number root[H], rows[ROWS][2][H], buffer[H], digits[H], sums[2][H];
+static number root[H], rows[MOST_SELECTORS * ROWS][2][H], buffer[H], digits[H], sums[2][H];
 static fftw_plan forward, backward;
 
 static void start(void) {
@@ -55,15 +55,16 @@ static inline int32_t digit(uint32_t word, int shift) {
     return (int32_t)(word >> shift & ((1u << G) - 1)) - (1 << (G - 1));
 }
 
-void fft_prepare(const uint32_t *block) {
+void fft_prepare(const uint32_t *blocks, size_t selectors) {
     start();
-    for (int r = 0; r < ROWS; r++)
-        for (int c = 0; c < 2; c++)
-            transform(rows[r][c], (const int32_t *)block + (2 * r + c) * N);
+    for (size_t r = 0; r < selectors * ROWS; r++)
+        for (size_t c = 0; c < 2; c++)
+            transform(rows[r][c], (const int32_t *)blocks + (2 * r + c) * N);
 }
 
-void fft_cmux(const uint32_t *sample0, const uint32_t *sample1, uint32_t *out) {
+void fft_cmux(size_t selector, const uint32_t *sample0, const uint32_t *sample1, uint32_t *out) {
     static int32_t polynomial[N];
+    number (*block)[2][H] = rows + selector * ROWS;
     uint32_t offset = G * L < 32 ? 1u << (31 - G * L) : 0;
     for (int j = 1; j <= L; j++)
         offset += 1u << (32 - G * j + G - 1);
@@ -73,8 +74,8 @@ void fft_cmux(const uint32_t *sample0, const uint32_t *sample1, uint32_t *out) {
         for (int i = 0; i < N; i++)
             polynomial[i] = digit(sample1[from + i] - sample0[from + i] + offset, shift);
         transform(digits, polynomial);
-        add_product(sums[0], digits, rows[r][0]);
-        add_product(sums[1], digits, rows[r][1]);
+        add_product(sums[0], digits, block[r][0]);
+        add_product(sums[1], digits, block[r][1]);
     }
     memcpy(out, sample0, 2 * N * sizeof *out);
     add_back(out, sums[0]);

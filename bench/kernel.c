@@ -42,6 +42,6 @@ int main(void) {
         }
     }
     printf("digit polynomial times row, N = %d, g = %d, L = %d; the words of all variants agree\n", N, G, L);
-    measure(variants, VARIANTS);
+    measure(variants, VARIANTS, MOST_ROUNDS);
     return 0;
 }

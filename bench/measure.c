@@ -5,7 +5,7 @@
 #include <stdlib.h>
 #include <time.h>
 
-enum { ROUNDS = 31, VARIANTS = 8 };
+enum { VARIANTS = 8 };
 
 // A turn repeats a variant for about so many seconds, so that the clock's grain doesn't count.
 static const double turn = 0.006;
@@ -45,27 +45,28 @@ static int by_value(const void *a, const void *b) {
 }
 
 // To the first variant: of the best times, and the median over rounds. To the fastest: of the best times.
-static void print_ratios(const struct variant *variants, size_t count, double ratio[][ROUNDS], const double *best) {
+static void print_ratios(const struct variant *variants, size_t count, double ratio[][MOST_ROUNDS], int rounds,
+                         const double *best) {
     double fastest = best[0];
     for (size_t v = 1; v < count; v++)
         fastest = best[v] < fastest ? best[v] : fastest;
     printf("%-28s %16s %16s %16s\n", "", "to the first", "median", "to the fastest");
     for (size_t v = 0; v < count; v++) {
-        qsort(ratio[v], ROUNDS, sizeof(double), by_value);
-        printf("%-28s %16.3g %16.3g %16.3g\n", variants[v].name, best[v] / best[0], ratio[v][ROUNDS / 2], best[v] / fastest);
+        qsort(ratio[v], (size_t)rounds, sizeof(double), by_value);
+        printf("%-28s %16.3g %16.3g %16.3g\n", variants[v].name, best[v] / best[0], ratio[v][rounds / 2], best[v] / fastest);
     }
 }
 
-void measure(const struct variant *variants, size_t count) {
-    static double ratio[VARIANTS][ROUNDS], best[VARIANTS];
+void measure(const struct variant *variants, size_t count, int rounds) {
+    static double ratio[VARIANTS][MOST_ROUNDS], best[VARIANTS];
     unsigned times[VARIANTS];
-    if (count > VARIANTS)
+    if (count > VARIANTS || rounds < 1 || rounds > MOST_ROUNDS)
         exit(1);
     for (size_t v = 0; v < count; v++) {
         best[v] = seconds(variants[v].run, 1);
         times[v] = 1 + (unsigned)(turn / best[v]);
     }
-    for (int r = 0; r < ROUNDS; r++) {
+    for (int r = 0; r < rounds; r++) {
         double time[VARIANTS];
         for (size_t v = 0; v < count; v++) {
             time[v] = seconds(variants[v].run, times[v]);
@@ -74,5 +75,5 @@ void measure(const struct variant *variants, size_t count) {
         for (size_t v = 0; v < count; v++)
             ratio[v][r] = time[v] / time[0];
     }
-    print_ratios(variants, count, ratio, best);
+    print_ratios(variants, count, ratio, rounds, best);
 }

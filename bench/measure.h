@@ -17,6 +17,7 @@ void fill(uint32_t *words, size_t count);
 uint32_t greatest_distance(const uint32_t *x, const uint32_t *y, size_t count);
 
 // Runs every variant in turn, round after round, and prints times as ratios to the first variant's.
-void measure(const struct variant *variants, size_t count);
+enum { MOST_ROUNDS = 31 };
+void measure(const struct variant *variants, size_t count, int rounds);
 
 #endif

@@ -4,8 +4,9 @@
  * A broker encrypts what an applicant answered, an evaluator without the key works it through a
  * rate table, and the broker decrypts a rate class. The scheme is levelled TFHE over 32-bit torus
  * words. This header declares the broker's side, encrypting and decrypting classes and encrypting
- * selector bits, and what needs no key: the external product, the CMux ("gate"), and extracting one
- * coefficient of a packed sample. It can be included from C and from C++.
+ * selector bits, and what needs no key: the lookup in a table, the external product and the CMux
+ * ("gate") that it is made of, and extracting one coefficient of a packed sample. It can be included
+ * from C and from C++.
  *
  * Masks and errors must come from the caller's own source of randomness: the library draws none.
  * It makes no claim about secrecy, and chooses no parameters.
@@ -42,6 +43,9 @@
  *                 or it is the sample's noise bound. Only its size is tested.
  * Charge          what an external product or a CMux adds to the noise, with a block of amplitude A:
  *                 2*L*N*2^(g-1)*A + (1 + N)*E.
+ * Table           2^d entries of s classes each, in the order of their numbers, all classes of an entry
+ *                 side by side. Binary digit i of an entry's number, digit 0 the lowest, is the bit of
+ *                 selector i. The exact encoding of an entry is the message that holds its classes.
  *
  *
  * CONVENTIONS
@@ -80,8 +84,6 @@
  *     7      0            a class is not below M, or a selector bit is above 1
  *     8      0            a key word is above 1
  *     9      the bound    the bound is 2^31/M or more
- *
- * d is an argument of lookups; no call in this header takes it.
  */
 #ifndef CIKENUMA_H
 #define CIKENUMA_H
@@ -325,6 +327,57 @@ uint64_t cikenuma_cmux_gates(uint64_t N, uint64_t g, uint64_t L,
                              const uint8_t *sample0, size_t sample0_length,
                              const uint8_t *sample1, size_t sample1_length,
                              const uint8_t *out, size_t out_length);
+
+/*
+ * Looks an entry up in a public table by d selectors, without the key.
+ *
+ *   N            degree
+ *   g            the gadget's base is 2^g
+ *   L            how many digits the gadget has
+ *   M            number of classes
+ *   s            how many classes an entry has, 1 to N
+ *   d            how many selectors, 0 to 10
+ *   blocks       d*4*L*N words, the selectors' blocks, selector 0 first
+ *   amplitudes   d words, that of each block, at most 2^31
+ *   classes      s*2^d words, the table: the s classes of entry 0, then those of entry 1, and so on,
+ *                each below M
+ *   sample       2*N words, written: the packed sample that the tree of CMuxes makes. Every entry begins
+ *                as a packed sample with mask 0 and its exact encoding as body. Selector 0 joins
+ *                entries 2t and 2t + 1 by a CMux, selector 1 joins those results, and so on to the
+ *                last selector, whose one result is written. With d = 0 it is entry 0 itself.
+ *   work         2*N*(d + 1) words, room for the tree: what it holds before is of no account, and
+ *                afterwards all of it is 0
+ *
+ * Refusals, in order: 1, 2, 3, 4, 5, 6, 7, 9. With d = 0 all arguments are tested as with any other d;
+ * blocks and amplitudes then have length 0.
+ * Bound: the sum of the d charges, a selector's charge going by its amplitude; 0 if d is 0. From 2^31/M
+ * on the call refuses with 9, before anything is written, and the whole sum is still reported.
+ * What it means: if the call returns 0, and each block holds its bit within its amplitude under a key
+ * of 0s and 1s, then no coefficient of the sample's phase under that key, of all N, is farther than
+ * the bound from the exact encoding of the entry that the bits name. And cikenuma_decrypt_classes with
+ * the same N, M and s and that key gives this entry's classes.
+ * Gates: 2^d - 1.
+ */
+uint32_t cikenuma_lookup(uint64_t N, uint64_t g, uint64_t L, uint64_t M, uint64_t s, uint64_t d,
+                         const uint8_t *blocks, size_t blocks_length,
+                         const uint8_t *amplitudes, size_t amplitudes_length,
+                         const uint8_t *classes, size_t classes_length,
+                         uint8_t *sample, size_t sample_length,
+                         uint8_t *work, size_t work_length);
+
+uint64_t cikenuma_lookup_bound(uint64_t N, uint64_t g, uint64_t L, uint64_t M, uint64_t s, uint64_t d,
+                               const uint8_t *blocks, size_t blocks_length,
+                               const uint8_t *amplitudes, size_t amplitudes_length,
+                               const uint8_t *classes, size_t classes_length,
+                               const uint8_t *sample, size_t sample_length,
+                               const uint8_t *work, size_t work_length);
+
+uint64_t cikenuma_lookup_gates(uint64_t N, uint64_t g, uint64_t L, uint64_t M, uint64_t s, uint64_t d,
+                               const uint8_t *blocks, size_t blocks_length,
+                               const uint8_t *amplitudes, size_t amplitudes_length,
+                               const uint8_t *classes, size_t classes_length,
+                               const uint8_t *sample, size_t sample_length,
+                               const uint8_t *work, size_t work_length);
 
 #ifdef __cplusplus
 }

@@ -4,7 +4,7 @@
 -- s is accepted and lists that entry's classes. It is one statement over all lawful N, g, L, M, s and d. And what an accepted lookup
 -- reports.
 -- Assumes nothing.
-use mathlib.Core.Path.{_≡_, refl, ap, _∙_, subst}
+use mathlib.Core.Path.{_≡_, refl, ap, _∙_}
 use mathlib.Core.List.{List}
 use Prim.Native.Nat.{ℕ, _+_, _-_, _*_, _^_, _≤_, _<_}
 use native.Mathlib.Nat.{le-of-lt}
@@ -13,17 +13,17 @@ use lib.ListN.{length, getD}
 use Rattle.torus.specs.Sum.{sum, chunk}
 use Rattle.torus.specs.Word.{distance}
 use Rattle.torus.specs.Bytes.{AreBytes, words, bytes}
-use Rattle.torus.proofs.Joined.{chunk-inside, length-chunk}
+use Rattle.torus.proofs.Joined.{chunk-inside}
 use Rattle.torus.proofs.Magnitudes.{near-distance}
 use Rattle.torus.proofs.Parts.{length-words, length-bytes, words-bytes}
-use Rattle.ring.proofs.Close.{Close, close-to}
+use Rattle.ring.proofs.Close.{Close}
 use Rattle.answers.specs.Answers.{number, bound, gates}
 use Rattle.answers.proofs.Laws.{after-written}
 use Rattle.trlwe.specs.Sample.{Key, phase, decrypted}
 use Rattle.trlwe.specs.Calls.{decryptClasses, decryptClassesClasses}
 use Rattle.trlwe.proofs.Accepted.{decrypt-accepts}
 use Rattle.trlwe.proofs.Phases.{length-trivial}
-use Rattle.trlwe.proofs.Decrypted.{decrypted-near, decrypt-bytes}
+use Rattle.trlwe.proofs.Decrypted.{decrypt-bytes}
 use Rattle.trgsw.specs.Block.{Holds}
 use Rattle.trgsw.specs.External.{charge}
 use Rattle.trgsw.proofs.CallNoise.{weight-one}
@@ -32,8 +32,8 @@ use Rattle.lookup.specs.Lookup.{selector, entryClasses, entryMessage, en
 use Rattle.lookup.specs.Calls.{lookup, lookupSample}
 use Rattle.lookup.proofs.Accepted.{Findable, lookup-accepted, lookup-accepts}
 use Rattle.lookup.proofs.Trees.{tree-zero, entry-number-lt}
-use Rattle.lookup.proofs.Noise.{joined-below, length-joined-samples, joined-near}
-use Rattle.lookup.proofs.PublicEntries.{class-below, entry-word, entry-below, entry-phase, entry-bytes}
+use Rattle.lookup.proofs.Noise.{joined-below, length-joined-samples}
+use Rattle.lookup.proofs.PublicEntries.{entry-word, entry-below, entry-bytes, public-near, public-classes}
 
 module _ (N g L M s d : ℕ) (blocks amplitudes classes sample work : List ℕ)
     (e : number (lookup N g L M s d blocks amplitudes classes sample work) ≡ 0) where
@@ -81,15 +81,9 @@ module _ (N g L M s d : ℕ) (blocks amplitudes classes sample work : List ℕ)
         (phase N 1 (words key) (words (lookupSample N g L M s d blocks amplitudes classes sample work)))
         (entryMessage M s (entryNumber bits d) (words classes))
     lookup-near =
-        let entry : ℕ → List ℕ = entrySample N 1 M s (words classes) in
-        let same : 0 * 2 ^ d + entryNumber bits d ≡ entryNumber bits d = omega arith in
         rw lookup-words
-        (close-to
-        (subst (λ h. Close (2 ^ 32) N (charges N 1 g L N (words amplitudes) d)
-        (phase N 1 (words key) (joinedSamples N 1 g L (words blocks) entry d 0)) (phase N 1 (words key) (entry h))) same
-        (joined-near N 1 g L N d 0 bits (words key) (words blocks) (words amplitudes) entry (ok .lawful) (weight-one N key k) bit holds
-        (entry-below M s (words classes) (ok .class-number) below N 1)))
-        (entry-phase M s (words classes) (ok .class-number) below N 1 (words key) (entryNumber bits d)))
+        (public-near M s (words classes) (ok .class-number) below N 1 g L N d bits (words key) (words blocks) (words amplitudes)
+        (ok .lawful) (weight-one N key k) bit holds)
 
     -- As a distance of words, that is at most the reported bound.
     lookup-within : (i : ℕ) → i < N
@@ -101,18 +95,13 @@ module _ (N g L M s d : ℕ) (blocks amplitudes classes sample work : List ℕ)
         entry-word M s (words classes) (ok .class-number) below (entryNumber bits d) i in
         rw (lookup-accepts N g L M s d blocks amplitudes classes sample work ok) (near-distance (le-of-lt word) (lookup-near i l))
 
-    -- The entry is one of those that were lent.
-    entry-inside : entryNumber bits d * s + s ≤ length (words classes)
-    entry-inside = omega (arith, chunk-inside (entryNumber bits d) (2 ^ d) s (entry-number-lt bits d bit), length-words classes, ok .classes-length)
-
     -- So it holds the classes of that entry.
     lookup-holds : decrypted N 1 M s (words key) (words (lookupSample N g L M s d blocks amplitudes classes sample work))
         ≡ entryClasses s (entryNumber bits d) (words classes)
     lookup-holds =
-        decrypted-near N 1 M s (charges N 1 g L N (words amplitudes) d) (words key) _ (entryClasses s (entryNumber bits d) (words classes))
-        (ok .class-number) (length-chunk s (entryNumber bits d) (words classes) entry-inside)
-        (λ i l. class-below M s (words classes) (ok .class-number) below (entryNumber bits d) i) (ok .quiet)
-        (λ i l. let inside : i < N = omega (arith, ok .most) in lookup-near i inside)
+        rw lookup-words
+        (public-classes M s (words classes) (ok .class-number) below N 1 g L N d bits (words key) (words blocks) (words amplitudes)
+        (ok .lawful) (weight-one N key k) bit holds (ok .most) (omega (arith, length-words classes, ok .classes-length)) (ok .quiet))
 
 -- The accuracy rule.
 pub accuracy : (N g L M s d : ℕ) (bits : ℕ → ℕ) (key blocks amplitudes classes sample work out : List ℕ)

@@ -3,6 +3,7 @@ pub mod Noise
 pub mod Accepted
 pub mod PublicEntries
 pub mod Accuracy
+pub mod EndToEnd
 pub mod Instance
 pub mod Charges
 pub mod Runs

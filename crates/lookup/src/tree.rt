@@ -100,7 +100,8 @@ fn join(
     ledger.raise(charge_of(amplitudes, p, i))
 }
 
-// Run t of level d. A level keeps one sample at the front of work, and lends the rest to the level below.
+// Run t of level d. A level keeps one sample at the front of work, and lends the rest to the level below; the number of that level
+// is also that of the selector which joins its runs.
 fn tree(
     sample: &mut [u8],
     work: &mut [u8],
@@ -127,6 +128,7 @@ fn tree(
         return ledger;
     }
     let own = sample.len();
+    let below = d - 1;
     let odd = tree(
         sample,
         &mut work[own..],
@@ -134,7 +136,7 @@ fn tree(
         amplitudes,
         classes,
         p,
-        d - 1,
+        below,
         2 * t + 1,
         ledger,
     );
@@ -146,11 +148,11 @@ fn tree(
         amplitudes,
         classes,
         p,
-        d - 1,
+        below,
         2 * t,
         odd.beside(ledger),
     );
-    join(sample, work, blocks, amplitudes, p, d - 1, even)
+    join(sample, work, blocks, amplitudes, p, below, even)
 }
 
 // The lookup in all 2^d entries; work is cleared after it.

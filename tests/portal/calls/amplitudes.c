@@ -10,7 +10,7 @@ static const uint64_t limit = UINT64_C(0x80000000);
 static void all_zero(struct arguments *a, const struct call *call, struct numbers n)
 {
     lawful(a, call, n, 1);
-    for (size_t k = 0; k + 1 < call->slices; k++)
+    for (size_t k = 0; k < call->slices - call->written; k++)
         memset(a->slice[k].at, 0, a->slice[k].length);
 }
 

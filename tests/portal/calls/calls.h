@@ -18,7 +18,9 @@ void test_lengths(void);
 void test_words(void);
 void test_errors(void);
 void test_classes(void);
+void test_limits(void);
 void test_examples(void);
 void test_block_examples(void);
+void test_lookup_examples(void);
 
 #endif

@@ -1,6 +1,6 @@
 /*
- * Words of blocks and of the samples beside them: every word reaches the result as its formula says, and no word
- * is special.
+ * Words of blocks and of the samples or classes beside them: every word reaches the result as its formula says, and no
+ * word is special.
  */
 #include "calls.h"
 
@@ -27,10 +27,25 @@ static uint32_t extreme(struct gadget gadget, size_t i)
     return every_digit(gadget, i == EXTREMES ? -half : half - 1);
 }
 
+/* The word, or its lowest bits where not every word is lawful; the tests have 16 classes. */
+static uint32_t lawful_part(enum kind kind, uint32_t word)
+{
+    switch (kind) {
+    case KEY:
+        return word & 1;
+    case CLASSES:
+        return word & 15;
+    case AMPLITUDES:
+        return word & 7;
+    default:
+        return word;
+    }
+}
+
 static void fill(struct bytes *b, enum kind kind, uint32_t word)
 {
     for (size_t i = 0; i < words_in(b); i++)
-        put_word(b, i, kind == KEY ? word & 1 : word);
+        put_word(b, i, lawful_part(kind, word));
 }
 
 /* Each slice that is read is all one extreme, in every combination. */
@@ -49,7 +64,7 @@ static void test_combinations(const struct call *call, uint64_t N, struct gadget
         lawful(&a, call, n, 1);
         for (size_t k = 0, rest = c; k < read; k++, rest /= choices)
             fill(&a.slice[k], call->kind[k], extreme(gadget, rest % choices));
-        accept(&a);
+        accept_or_9(&a);
     }
     free_arguments(&a);
 }
@@ -67,8 +82,8 @@ static void test_each_word(const struct call *call, struct gadget gadget)
             for (size_t e = 0; e < EXTREMES + 2; e++) {
                 uint32_t was = word_at(&a.slice[k], i), word = extreme(gadget, e);
                 at("%s: word %zu of slice %zu is %" PRIu32, call->name, i, k, word);
-                put_word(&a.slice[k], i, call->kind[k] == KEY ? word & 1 : word);
-                accept(&a);
+                put_word(&a.slice[k], i, lawful_part(call->kind[k], word));
+                accept_or_9(&a);
                 put_word(&a.slice[k], i, was);
             }
     }

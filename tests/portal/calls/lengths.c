@@ -1,14 +1,14 @@
-/* Lengths: every slice of every call, the written one too, must have its exact length to the byte. */
+/* Lengths: every slice of every call, the written ones too, must have its exact length to the byte. */
 #include "calls.h"
 
 #include <inttypes.h>
 
 /* Arguments in which only the length of slice k is other than it was. */
-static void test_length(const struct call *call, uint64_t N, size_t k, size_t length)
+static void test_length(const struct call *call, struct numbers n, size_t k, size_t length)
 {
     struct arguments a = {0};
-    lawful(&a, call, usual(N), N);
-    at("%s, N = %" PRIu64 ": slice %zu of %zu bytes has %zu", call->name, N, k, a.slice[k].length, length);
+    lawful(&a, call, n, n.N);
+    at("%s, N = %" PRIu64 ": slice %zu of %zu bytes has %zu", call->name, n.N, k, a.slice[k].length, length);
     if (length != a.slice[k].length) {
         set_length(&a.slice[k], length);
         refuse(&a, 5);
@@ -16,19 +16,19 @@ static void test_length(const struct call *call, uint64_t N, size_t k, size_t le
     free_arguments(&a);
 }
 
-static void test_slice(const struct call *call, uint64_t N, size_t k)
+static void test_slice(const struct call *call, struct numbers n, size_t k)
 {
     struct arguments a = {0};
-    lawful(&a, call, usual(N), N);
+    lawful(&a, call, n, n.N);
     size_t exact = a.slice[k].length;
     /* 0, the number of words, half and twice; then up to two words short and long, to the byte. */
     const size_t lengths[] = {0, exact / 4, exact / 2, 2 * exact, 4 * exact};
     for (size_t i = 0; i < sizeof lengths / sizeof lengths[0]; i++)
-        test_length(call, N, k, lengths[i]);
+        test_length(call, n, k, lengths[i]);
     for (size_t by = 1; by <= 8; by++) {
-        test_length(call, N, k, exact + by);
+        test_length(call, n, k, exact + by);
         if (by <= exact)
-            test_length(call, N, k, exact - by);
+            test_length(call, n, k, exact - by);
     }
     free_arguments(&a);
 }
@@ -56,20 +56,58 @@ static void test_long_slice(const struct call *call, size_t k)
     free_arguments(&a);
 }
 
+/* Slices that fit another lawful value of a number, and not the one that is passed. */
+static void test_other_value(const struct call *call, char letter, uint64_t value)
+{
+    struct arguments a = {0};
+    lawful(&a, call, usual(8), 3);
+    uint64_t *number = number_of(&a, letter);
+    if (number && *number != value) {
+        at("%s: slices as for %c = %" PRIu64 ", which is %" PRIu64, call->name, letter, *number, value);
+        *number = value;
+        refuse(&a, 5);
+    }
+    free_arguments(&a);
+}
+
+/* Usual values are N = 8, L = 3, s = 4 and d = 2. */
+static void test_other_values(const struct call *call)
+{
+    for (uint64_t N = 16; N <= 1024; N *= 2)
+        test_other_value(call, 'N', N);
+    for (uint64_t L = 1; L <= 4; L++)
+        test_other_value(call, 'L', L);
+    for (uint64_t s = 1; s <= 8; s++)
+        test_other_value(call, 's', s);
+    for (uint64_t d = 0; d <= 10; d++)
+        test_other_value(call, 'd', d);
+}
+
+/* A lookup's slices, for every number of selectors: without any, blocks and amplitudes are empty. */
+static void test_selectors(void)
+{
+    struct numbers n = usual(4);
+    for (n.d = 0; n.d <= 10; n.d++)
+        for (size_t k = 0; k < lookup.slices; k++)
+            test_slice(&lookup, n, k);
+}
+
 static void test_call(const struct call *call)
 {
     for (size_t k = 0; k < call->slices; k++) {
         for (uint64_t N = 1; N <= 1024; N *= 2)
-            test_slice(call, N, k);
+            test_slice(call, usual(N), k);
         for (size_t to = 0; to < call->slices; to++)
             if (to != k)
                 test_moved_word(call, k, to);
         test_long_slice(call, k);
     }
+    test_other_values(call);
 }
 
 void test_lengths(void)
 {
     for (size_t c = 0; all_calls[c]; c++)
         test_call(all_calls[c]);
+    test_selectors();
 }

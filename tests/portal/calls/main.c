@@ -14,11 +14,13 @@ int main(void)
     start("calls");
     test_examples();
     test_block_examples();
+    test_lookup_examples();
     test_accepted();
     test_refusals();
     test_numbers();
     test_gadgets();
     test_amplitudes();
+    test_limits();
     test_lengths();
     test_words();
     test_extremes();

@@ -30,6 +30,8 @@ static uint32_t answer_for(struct numbers n, char letter)
         return n.s >= 1 && n.s <= n.N ? 0 : 4;
     case 'p':
         return n.p < n.N ? 0 : 4;
+    case 'd':
+        return n.d <= 10 ? 0 : 4;
     case 'A':
     case 'B':
     case '0':
@@ -59,7 +61,7 @@ static void test_value(const struct call *call, char letter, uint64_t N, uint64_
     uint32_t want = answer_for(n, letter);
     lawful(&a, call, n, v);
     if (want == 0) {
-        accept(&a);
+        accept_or_9(&a);
     } else {
         refuse(&a, want);
         empty_slices(&a);

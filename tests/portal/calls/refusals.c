@@ -25,6 +25,7 @@ static const struct fault faults[] = {
     {3, NUMBER, 'M', 0}, {3, NUMBER, 'M', 1}, {3, NUMBER, 'M', 24}, {3, NUMBER, 'M', 131072},
     {4, NUMBER, 's', 0}, {4, NUMBER, 's', 9}, {4, NUMBER, 's', 3000},
     {4, NUMBER, 'p', 8}, {4, NUMBER, 'p', 9}, {4, NUMBER, 'p', 3000},
+    {4, NUMBER, 'd', 11}, {4, NUMBER, 'd', 64}, {4, NUMBER, 'd', UINT64_C(4294967297)},
     {5, LENGTH, 0, 1}, {5, LENGTH, 0, (uint64_t)-1}, {5, LENGTH, 1, 4}, {5, LENGTH, 1, (uint64_t)-1},
     {5, LENGTH, 2, 1}, {5, LENGTH, 2, (uint64_t)-4}, {5, LENGTH, 3, 4}, {5, LENGTH, 3, (uint64_t)-4},
     {5, LENGTH, 4, 1}, {5, LENGTH, 4, (uint64_t)-4},
@@ -32,16 +33,21 @@ static const struct fault faults[] = {
     {6, NUMBER, 'B', UINT64_C(2147483649)}, {6, NUMBER, 'B', UINT64_MAX},
     {6, NUMBER, '0', UINT64_C(2147483649)}, {6, NUMBER, '0', UINT64_C(4294967297)},
     {6, NUMBER, '1', UINT64_C(2147483649)}, {6, NUMBER, '1', UINT64_C(9223372036854775808)},
+    {6, FIRST_WORD, AMPLITUDES, UINT32_C(2147483649)}, {6, FIRST_WORD, AMPLITUDES, UINT32_MAX},
     {7, FIRST_WORD, CLASSES, 16}, {7, LAST_WORD, CLASSES, 17}, {7, LAST_WORD, CLASSES, UINT32_MAX},
     {7, NUMBER, 'm', 2}, {7, NUMBER, 'm', UINT64_C(4294967296)}, {7, NUMBER, 'm', UINT64_C(4294967297)},
     {8, FIRST_WORD, KEY, 2}, {8, LAST_WORD, KEY, 2}, {8, LAST_WORD, KEY, UINT32_MAX},
     {9, FIRST_WORD, ERRORS, 134217728}, {9, LAST_WORD, ERRORS, UINT32_C(4160749568)},
     {9, LAST_WORD, ERRORS, UINT32_C(2147483648)},
+    {9, LAST_WORD, AMPLITUDES, 43685}, {9, LAST_WORD, AMPLITUDES, UINT32_C(2147483648)},
 };
 
 enum { FAULTS = sizeof faults / sizeof faults[0] };
 
-/* N = 8, M = 16: the error limit is 134217728. g = 7, L = 3: g is lawful up to 10, L up to 4. */
+/*
+ * N = 8, M = 16: the limit of errors and bounds is 134217728. g = 7, L = 3: g is lawful up to 10, L up to 4. A charge
+ * is 3072 times the amplitude and 9216, so with two selectors 43685 is the least amplitude that is too great beside 0.
+ */
 static void start_lawful(struct arguments *a, const struct call *call)
 {
     lawful(a, call, usual(8), 7);
@@ -89,9 +95,13 @@ static int put_fault(struct arguments *a, const struct fault *f)
     return f->sort == LENGTH ? put_length_fault(a, f) : put_word_fault(a, f);
 }
 
-static uint64_t bound_of(const struct fault *f)
+/* Refusal 9 comes with the bound, the others with 0. */
+static void refuse_with(struct arguments *a, uint32_t refusal)
 {
-    return f->refusal == 9 ? magnitude((uint32_t)f->value) : 0;
+    if (refusal == 9)
+        check_call(a, accept_or_9(a) == 9, "the fault leaves the bound below the limit");
+    else
+        refuse(a, refusal);
 }
 
 static void test_alone(const struct call *call)
@@ -104,7 +114,7 @@ static void test_alone(const struct call *call)
         start_lawful(&a, call);
         if (!put_fault(&a, f))
             continue;
-        make_call(&a, (struct answer){f->refusal, bound_of(f), 0});
+        refuse_with(&a, f->refusal);
         for (size_t r = 0; call->refusals[r]; r++)
             reached[r] |= call->refusals[r] == f->refusal;
         check_call(&a, can_refuse(call, f->refusal), "it isn't listed that the call refuses so");
@@ -141,7 +151,7 @@ static void test_all_from(const struct call *call, size_t first)
     for (size_t i = 0; i < FAULTS; i++)
         if (faults[i].refusal >= call->refusals[first] && faults[i].refusal != before && put_fault(&a, &faults[i]))
             before = faults[i].refusal;
-    make_call(&a, (struct answer){call->refusals[first], call->refusals[first] == 9 ? 134217728 : 0, 0});
+    refuse_with(&a, call->refusals[first]);
     free_arguments(&a);
 }
 

@@ -19,13 +19,14 @@ static struct {
     struct arguments *a;
     struct lent lent[MAX_SLICES];
     int which;
+    uint32_t number;
 } task;
 
 static void run_task(void)
 {
     const struct call *call = task.a->call;
     if (task.which == NUMBER)
-        call->answer(task.a->number, task.lent);
+        task.number = call->answer(task.a->number, task.lent);
     else
         (task.which == BOUND ? call->bound : call->gates)(task.a->number, task.lent);
 }
@@ -61,6 +62,7 @@ static void test_numbers_of(const struct call *call, struct numbers n)
         greatest = used > greatest ? used : greatest;
         check_call(&a, used <= STATED, "%s uses %zu bytes of stack", names[task.which], used);
     }
+    check_call(&a, task.number == 0, "the call is refused, and so tells little of its stack");
     free_arguments(&a);
 }
 
@@ -74,5 +76,8 @@ void test_stack(void)
             n.L = 32;
             test_numbers_of(all_calls[c], n);
         }
+    /* The deepest tree: ten selectors, with noise that is accepted. */
+    for (uint64_t N = 1; N <= 1024; N *= 32)
+        test_numbers_of(&lookup, (struct numbers){.N = N, .M = 2, .s = N, .g = 8, .L = 2, .d = 10});
     printf("calls: at most %zu bytes of stack\n", greatest);
 }

@@ -1,4 +1,4 @@
-/* Words that are refused, in every place: a key word above 1, a class not below M. */
+/* Words that are refused, in every place: a key word above 1, a class not below M, an amplitude above 2^31. */
 #include "calls.h"
 
 #include <inttypes.h>
@@ -31,17 +31,56 @@ static void test_keys(const struct call *call)
     test_key(call, 1024, 1023);
 }
 
-static void test_class(uint64_t N, uint64_t M, uint64_t s, uint64_t place)
+/* The greatest class is accepted there, and no number from M on. */
+static void test_class(const struct call *call, struct numbers n, uint64_t place)
 {
     struct arguments a = {0};
-    const uint32_t bad[] = {(uint32_t)M, (uint32_t)M + 1, (uint32_t)M * 2, (uint32_t)M + 65536, (uint32_t)M << 8,
-                            16777216, UINT32_C(2147483648), UINT32_MAX};
-    lawful(&a, &encrypt_classes, (struct numbers){.N = N, .M = M, .s = s}, place);
+    uint32_t M = (uint32_t)n.M;
+    const uint32_t bad[] = {M, M + 1, M * 2, M + 65536, M << 8, 16777216, UINT32_C(2147483648), UINT32_MAX};
+    lawful(&a, call, n, place);
+    at("%s: class %" PRIu64 " is %" PRIu32 ", M = %" PRIu32, call->name, place, M - 1, M);
+    put_word(slice_of(&a, CLASSES), place, M - 1);
+    accept(&a);
     for (size_t i = 0; i < sizeof bad / sizeof bad[0]; i++) {
-        at("class %" PRIu64 " of %" PRIu64 " is %" PRIu32 ", M = %" PRIu64, place, s, bad[i], M);
+        at("%s: class %" PRIu64 " is %" PRIu32 ", M = %" PRIu32, call->name, place, bad[i], M);
         put_word(slice_of(&a, CLASSES), place, bad[i]);
         refuse(&a, 7);
     }
+    free_arguments(&a);
+}
+
+static void test_classes_of_samples(uint64_t M)
+{
+    for (uint64_t s = 1; s <= 8; s++)
+        for (uint64_t place = 0; place < s; place++)
+            test_class(&encrypt_classes, (struct numbers){.N = 8, .M = M, .s = s}, place);
+}
+
+/* With 32 digits of one bit nothing is rounded away, so that the noise is small enough for every M. */
+static void test_classes_of_tables(uint64_t M)
+{
+    struct numbers n = {.N = 4, .M = M, .g = 1, .L = 32};
+    for (n.d = 0; n.d <= 3; n.d++)
+        for (n.s = 1; n.s <= 4; n.s++)
+            for (uint64_t place = 0; place < n.s << n.d; place++)
+                test_class(&lookup, n, place);
+}
+
+/* 2^31 is an amplitude like any other: it isn't refused with 6, but makes a bound that is too great. */
+static void test_amplitude(uint64_t d, uint64_t place)
+{
+    struct arguments a = {0};
+    struct numbers n = usual(2);
+    n.d = d;
+    lawful(&a, &lookup, n, place);
+    for (uint32_t bad = UINT32_MAX; bad > UINT32_C(2147483648); bad -= (bad - UINT32_C(2147483648) + 1) / 2) {
+        at("amplitude %" PRIu64 " of %" PRIu64 " is %" PRIu32, place, d, bad);
+        put_word(slice_of(&a, AMPLITUDES), place, bad);
+        refuse(&a, 6);
+    }
+    at("amplitude %" PRIu64 " of %" PRIu64 " is 2147483648", place, d);
+    put_word(slice_of(&a, AMPLITUDES), place, UINT32_C(2147483648));
+    check_call(&a, accept_or_9(&a) == 9, "such noise is too great");
     free_arguments(&a);
 }
 
@@ -50,9 +89,13 @@ void test_words(void)
     for (size_t c = 0; all_calls[c]; c++)
         if (can_refuse(all_calls[c], 8))
             test_keys(all_calls[c]);
-    for (uint64_t M = 2; M <= 65536; M *= 2)
-        for (uint64_t s = 1; s <= 8; s++)
-            for (uint64_t place = 0; place < s; place++)
-                test_class(8, M, s, place);
-    test_class(1024, 65536, 1024, 1023);
+    for (uint64_t M = 2; M <= 65536; M *= 2) {
+        test_classes_of_samples(M);
+        test_classes_of_tables(M);
+    }
+    test_class(&encrypt_classes, (struct numbers){.N = 1024, .M = 65536, .s = 1024}, 1023);
+    test_class(&lookup, (struct numbers){.N = 1, .M = 16, .s = 1, .g = 16, .L = 2, .d = 10}, 1023);
+    for (uint64_t d = 1; d <= 10; d++)
+        for (uint64_t place = 0; place < d; place++)
+            test_amplitude(d, place);
 }

@@ -1,10 +1,10 @@
-/* What an accepted call must report and write, by the formulas in plain C. */
+/* What a call with lawful arguments must report and write, by the formulas in plain C. */
 #include "portal.h"
 
 #include <inttypes.h>
 
-/* A block of 32 rows for each polynomial, at degree 1,024. */
-enum { MAX_WORDS = 131072, MAX_SAMPLE = 2048 };
+/* A block of 32 rows for each polynomial, at degree 1,024; ten of them; and entries for ten selectors. */
+enum { MAX_WORDS = 131072, MAX_SAMPLE = 2048, MAX_BLOCKS = 10 * MAX_WORDS, MAX_TABLE = 1024 * 1024 };
 
 static uint64_t value(struct arguments *a, char letter)
 {
@@ -16,6 +16,14 @@ static uint64_t value(struct arguments *a, char letter)
 static struct gadget gadget_of(struct arguments *a)
 {
     return (struct gadget){value(a, 'g'), value(a, 'L')};
+}
+
+/* What a call reports that has a limit for its bound. */
+static struct answer limited(struct arguments *a, uint64_t bound, uint64_t gates)
+{
+    if (bound >= UINT64_C(0x80000000) / value(a, 'M'))
+        return (struct answer){9, bound, 0};
+    return (struct answer){0, bound, gates};
 }
 
 static struct answer classes_encrypted(struct arguments *a, uint32_t *want)
@@ -31,7 +39,7 @@ static struct answer classes_encrypted(struct arguments *a, uint32_t *want)
         want[N + i] = product_at(mask, key, N, i) + errors[i];
         want[N + i] += i < s ? encode(classes[i], value(a, 'M')) : 0;
     }
-    return (struct answer){0, greatest_magnitude(errors, N), 0};
+    return limited(a, greatest_magnitude(errors, N), 0);
 }
 
 static struct answer classes_decrypted(struct arguments *a, uint32_t *want)
@@ -101,8 +109,26 @@ static struct answer sample_picked(struct arguments *a, uint32_t *want)
     return (struct answer){0, (A0 > A1 ? A0 : A1) + charge_of(gadget_of(a), N, value(a, 'A')), 1};
 }
 
-/* What an accepted call reports, and in `want` the words that it writes. */
-static struct answer accepted(struct arguments *a, uint32_t *want)
+/* The sample, then the work slice, which is all 0. */
+static struct answer entry_looked_up(struct arguments *a, uint32_t *want)
+{
+    static uint32_t blocks[MAX_BLOCKS], amplitudes[MAX_D], classes[MAX_TABLE];
+    struct job job = {gadget_of(a), (size_t)value(a, 'N'), (size_t)value(a, 's'), (size_t)value(a, 'd'), value(a, 'M'),
+                      blocks, amplitudes, classes};
+    read_words(blocks, MAX_BLOCKS, slice_of(a, BLOCKS));
+    read_words(amplitudes, MAX_D, slice_of(a, AMPLITUDES));
+    read_words(classes, MAX_TABLE, slice_of(a, CLASSES));
+    struct answer answer = limited(a, charges_of(&job), (UINT64_C(1) << job.d) - 1);
+    if (answer.number == 0) {
+        looked_up(want, &job);
+        for (size_t i = 0; i < 2 * job.N * (job.d + 1); i++)
+            want[2 * job.N + i] = 0;
+    }
+    return answer;
+}
+
+/* What a call reports, and in `want` the words that it writes if it is accepted. */
+static struct answer expected(struct arguments *a, uint32_t *want)
 {
     const struct {
         const struct call *call;
@@ -111,6 +137,7 @@ static struct answer accepted(struct arguments *a, uint32_t *want)
         {&encrypt_classes, classes_encrypted}, {&decrypt_classes, classes_decrypted},
         {&decrypt_scalar, scalar_decrypted}, {&extract, extracted},
         {&encrypt_selector, selector_encrypted}, {&external_product, product_made}, {&cmux, sample_picked},
+        {&lookup, entry_looked_up},
     };
     for (size_t i = 0; i < sizeof formulas / sizeof formulas[0]; i++)
         if (formulas[i].call == a->call)
@@ -119,18 +146,39 @@ static struct answer accepted(struct arguments *a, uint32_t *want)
     return (struct answer){0, 0, 0};
 }
 
+static size_t words_written(const struct arguments *a)
+{
+    size_t count = 0;
+    for (size_t k = a->call->slices - a->call->written; k < a->call->slices; k++)
+        count += words_in(&a->slice[k]);
+    return count;
+}
+
 void check_written(const struct arguments *a, const uint32_t *want, size_t count)
 {
-    const struct bytes *written = &a->slice[a->call->slices - 1];
-    check_call(a, words_in(written) == count, "%zu words are written, not %zu", words_in(written), count);
-    for (size_t i = 0; i < count && i < words_in(written); i++)
-        check_call(a, word_at(written, i) == want[i], "word %zu written is %" PRIu32 ", not %" PRIu32, i,
-                   word_at(written, i), want[i]);
+    size_t before = 0;
+    check_call(a, words_written(a) == count, "%zu words are written, not %zu", words_written(a), count);
+    for (size_t k = a->call->slices - a->call->written; k < a->call->slices; k++) {
+        const struct bytes *written = &a->slice[k];
+        for (size_t i = 0; i < words_in(written) && before + i < count; i++)
+            check_call(a, word_at(written, i) == want[before + i],
+                       "word %zu of slice %zu is %" PRIu32 " afterwards, not %" PRIu32, i, k, word_at(written, i),
+                       want[before + i]);
+        before += words_in(written);
+    }
+}
+
+uint32_t accept_or_9(struct arguments *a)
+{
+    static uint32_t want[MAX_WORDS];
+    struct answer answer = expected(a, want);
+    make_call(a, answer);
+    if (answer.number == 0)
+        check_written(a, want, words_written(a));
+    return answer.number;
 }
 
 void accept(struct arguments *a)
 {
-    static uint32_t want[MAX_WORDS];
-    make_call(a, accepted(a, want));
-    check_written(a, want, words_in(&a->slice[a->call->slices - 1]));
+    check_call(a, accept_or_9(a) == 0, "the bound is too great for arguments that are to be accepted");
 }

@@ -24,7 +24,7 @@ uint64_t *value_of(struct numbers *n, char letter)
         uint64_t *value;
     } values[] = {
         {'N', &n->N}, {'M', &n->M}, {'s', &n->s}, {'p', &n->p}, {'g', &n->g}, {'L', &n->L},
-        {'m', &n->m}, {'A', &n->A}, {'B', &n->B}, {'0', &n->A0}, {'1', &n->A1},
+        {'m', &n->m}, {'A', &n->A}, {'B', &n->B}, {'0', &n->A0}, {'1', &n->A1}, {'d', &n->d},
     };
     for (size_t i = 0; i < sizeof values / sizeof values[0]; i++)
         if (values[i].letter == letter)
@@ -38,26 +38,34 @@ struct numbers usual(uint64_t N)
 {
     return (struct numbers){
         .N = N, .M = 16, .s = (N + 1) / 2, .p = N / 2, .g = 7, .L = 3, .m = 1, .A = 5, .B = 900, .A0 = 1000, .A1 = 2000,
+        .d = 2,
     };
 }
 
-/* The number with this letter as a count of words; 0 if the call takes none. */
+/* The number with this letter as a count, cut to twelve bits, or to six for d; 0 if the call takes none. */
 static size_t count_of(struct arguments *a, char letter)
 {
     const uint64_t *number = number_of(a, letter);
-    return number ? (size_t)(*number < 4096 ? *number : *number & 4095) : 0;
+    return number ? (size_t)(*number % (letter == 'd' ? 64 : 4096)) : 0;
+}
+
+/* 2^d, which is 1 for a call without d; what is too much to be lent counts as 0. */
+static size_t entries(struct arguments *a)
+{
+    size_t d = count_of(a, 'd');
+    return d <= 12 ? (size_t)1 << d : 0;
 }
 
 static size_t exact_words(struct arguments *a, enum kind kind)
 {
-    size_t N = count_of(a, 'N'), L = count_of(a, 'L');
+    size_t N = count_of(a, 'N'), L = count_of(a, 'L'), d = count_of(a, 'd');
     switch (kind) {
     case KEY:
     case MASK:
     case ERRORS:
         return N;
     case CLASSES:
-        return count_of(a, 's');
+        return count_of(a, 's') * entries(a);
     case SAMPLE:
     case SAMPLE1:
     case RESULT:
@@ -71,6 +79,12 @@ static size_t exact_words(struct arguments *a, enum kind kind)
         return 2 * L * N;
     case BLOCK:
         return 4 * L * N;
+    case BLOCKS:
+        return d * 4 * L * N;
+    case AMPLITUDES:
+        return d;
+    case WORK:
+        return 2 * N * (d + 1);
     }
     return 0;
 }
@@ -81,7 +95,7 @@ void fit(struct arguments *a)
         set_length(&a->slice[k], 4 * exact_words(a, a->call->kind[k]));
 }
 
-/* A lawful word: a sample's error is small enough for every M, a class is below M. */
+/* A lawful word: a sample's error is small enough for every M, a class is below M, an amplitude is small. */
 static uint32_t lawful_word(enum kind kind, uint64_t M, uint64_t *state)
 {
     uint64_t random = next_random(state);
@@ -92,6 +106,8 @@ static uint32_t lawful_word(enum kind kind, uint64_t M, uint64_t *state)
         return (uint32_t)(random % 65535) - 32767;
     case CLASSES:
         return (uint32_t)(random % (M >= 2 && M <= 65536 ? M : 2));
+    case AMPLITUDES:
+        return (uint32_t)(random % 8);
     default:
         return (uint32_t)random;
     }

@@ -9,7 +9,8 @@
  *   lawful.c    lawful arguments for a call
  *   plain.c     the formulas of samples and classes
  *   block.c     the formulas of digits, blocks and the CMux
- *   accept.c    what an accepted call must report and write, by these formulas
+ *   tree.c      the formulas of the lookup
+ *   accept.c    what a call with lawful arguments must report and write, by these formulas
  */
 #ifndef PORTAL_H
 #define PORTAL_H
@@ -24,7 +25,8 @@ enum { MAX_NUMBERS = 8, MAX_SLICES = 8, MAX_REFUSALS = 16 };
 /* What a slice holds; its exact length follows from it and the numbers. */
 enum kind {
     KEY, MASK, ERRORS, CLASSES, SAMPLE, SCALAR, CLASS_WORD,
-    ROW_MASKS, ROW_ERRORS, BLOCK, SAMPLE1, RESULT
+    ROW_MASKS, ROW_ERRORS, BLOCK, SAMPLE1, RESULT,
+    BLOCKS, AMPLITUDES, WORK
 };
 
 /* A slice as a call gets it. */
@@ -46,7 +48,7 @@ struct call {
 };
 
 extern const struct call encrypt_classes, decrypt_classes, decrypt_scalar, extract;
-extern const struct call encrypt_selector, external_product, cmux;
+extern const struct call encrypt_selector, external_product, cmux, lookup;
 
 /* Every call, then NULL. */
 extern const struct call *const all_calls[];
@@ -145,7 +147,7 @@ struct bytes *slice_of(struct arguments *a, enum kind kind);
  * amplitudes: A0 is '0' and A1 is '1'. Of the other amplitudes A is the block's and B the one sample's.
  */
 struct numbers {
-    uint64_t N, M, s, p, g, L, m, A, B, A0, A1;
+    uint64_t N, M, s, p, g, L, m, A, B, A0, A1, d;
 };
 
 /* The value with this letter. */
@@ -154,12 +156,16 @@ uint64_t *value_of(struct numbers *n, char letter);
 /* Lawful numbers with this degree. Those for degree 1 are lawful with every degree. */
 struct numbers usual(uint64_t N);
 
-/* Arguments that a call accepts, if it accepts the numbers. Empty arguments have call NULL. */
+/*
+ * Arguments that a call accepts, if it accepts the numbers; a lookup can still refuse them with 9. Empty arguments
+ * have call NULL.
+ */
 void lawful(struct arguments *a, const struct call *call, struct numbers n, uint64_t seed);
 
 /*
  * Gives every slice the exact length for the numbers. A number of 4,096 or more counts by its lowest
- * twelve bits: these lengths fit if it is cut to any width from twelve bits up.
+ * twelve bits: these lengths fit if it is cut to any width from twelve bits up. d counts by its lowest six,
+ * as in a shift, and 2^d is 0 from d = 13 on.
  */
 void fit(struct arguments *a);
 
@@ -201,12 +207,39 @@ void encrypted_block(uint32_t *block, struct gadget gadget, size_t N, uint32_t m
 /* To the sample in out, the external product of the block with a sample. */
 void add_external(uint32_t *out, struct gadget gadget, size_t N, const uint32_t *block, const uint32_t *sample);
 
+/* ---- tree.c ---- */
+
+enum { MAX_D = 10 };
+
+/* A lookup's job. Selector i has amplitude i and block i, entry h the s classes from h*s on. */
+struct job {
+    struct gadget gadget;
+    size_t N, s, d;
+    uint64_t M;
+    const uint32_t *blocks, *amplitudes, *classes;
+};
+
+/* The sum of the d charges. */
+uint64_t charges_of(const struct job *job);
+
+/* Coefficient i of the exact encoding of entry h. */
+uint32_t entry_at(const struct job *job, size_t h, size_t i);
+
+/* The sample that the tree of CMuxes makes, 2*N words. */
+void looked_up(uint32_t *sample, const struct job *job);
+
 /* ---- accept.c ---- */
 
-/* The words that the call wrote, after it. */
+/* The words of all slices that the call wrote, one slice after another. */
 void check_written(const struct arguments *a, const uint32_t *want, size_t count);
 
-/* Makes a call that must be accepted; its bound, its gates and every word it writes are checked. */
+/*
+ * Makes a call in which nothing but the noise can be at fault: it must be accepted, or refused with 9 where its bound
+ * is 2^31/M or more. Its number, bound and gates are checked, and every word that it writes. Returns the number.
+ */
+uint32_t accept_or_9(struct arguments *a);
+
+/* Makes a call that must be accepted, with the same checks. */
 void accept(struct arguments *a);
 
 #endif

@@ -30,6 +30,8 @@ CALL(extract, number[0], number[1], SLICE(0), SLICE(1))
 CALL(encrypt_selector, number[0], number[1], number[2], number[3], SLICE(0), SLICE(1), SLICE(2), SLICE(3))
 CALL(external_product, number[0], number[1], number[2], number[3], number[4], SLICE(0), SLICE(1), SLICE(2))
 CALL(cmux, number[0], number[1], number[2], number[3], number[4], number[5], SLICE(0), SLICE(1), SLICE(2), SLICE(3))
+CALL(lookup, number[0], number[1], number[2], number[3], number[4], number[5], SLICE(0), SLICE(1), SLICE(2), SLICE(3),
+     SLICE(4))
 
 const struct call encrypt_classes = {
     "encrypt_classes", "NMs", {KEY, MASK, ERRORS, CLASSES, SAMPLE}, 5, 1, {1, 3, 4, 5, 7, 8, 9, 0},
@@ -66,6 +68,12 @@ const struct call cmux = {
     cmux_answer, cmux_bound, cmux_gates,
 };
 
+const struct call lookup = {
+    "lookup", "NgLMsd", {BLOCKS, AMPLITUDES, CLASSES, RESULT, WORK}, 5, 2, {1, 2, 3, 4, 5, 6, 7, 9, 0},
+    lookup_answer, lookup_bound, lookup_gates,
+};
+
 const struct call *const all_calls[] = {
-    &encrypt_classes, &decrypt_classes, &decrypt_scalar, &extract, &encrypt_selector, &external_product, &cmux, NULL,
+    &encrypt_classes, &decrypt_classes, &decrypt_scalar, &extract, &encrypt_selector, &external_product, &cmux,
+    &lookup, NULL,
 };

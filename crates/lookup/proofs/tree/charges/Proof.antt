@@ -2,7 +2,7 @@
 -- nothing.
 use native.Mathlib.Omega.{arith}
 use mathlib.Core.Path.{_≡_, refl, sym, ap, _∙_}
-use Prim.Native.Nat.{suc, _+_, _-_, _≤_}
+use Prim.Native.Nat.{_+_, _-_, _≤_}
 use borrow.Author.Needs.{needs}
 use Rattle.torus.specs.Bytes.{words}
 use Rattle.lookup.specs.Lookup as Lookup
@@ -22,7 +22,7 @@ loop-holds c = (omega arith, sym (charges-none _ _ _ _ _ _))
 charge-of-requires : tie.Need-charge-of-requires Inv-loop μ-loop
 charge-of-requires c κs =
     let s = c .before .before .before in
-    fewer (s .args .p) (s .args .d) (suc (c .before .loop .i)) (s .args .amplitudes .now) (omega arith) (s .pre)
+    fewer (s .args .p) (s .args .d) _ (s .args .amplitudes .now) (omega arith) (s .pre)
 
 add-sum : tie.Need-add-sum Inv-loop μ-loop
 add-sum c =

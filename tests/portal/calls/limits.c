@@ -1,0 +1,143 @@
+/*
+ * A lookup's bound: the sum of the charges for every gadget, and its limit 2^31/M. Below the limit a job is accepted;
+ * from it on it is refused with 9. The whole sum is reported either way, wherever the limit was passed.
+ */
+#include "calls.h"
+
+#include <inttypes.h>
+#include <string.h>
+
+static const uint64_t half_turn = UINT64_C(0x80000000);
+
+static struct gadget gadget_of(struct numbers n)
+{
+    return (struct gadget){n.g, n.L};
+}
+
+/*
+ * A job with these amplitudes and this sum of charges. All other words are 0, so that what is written is 0 too and the
+ * bound goes by the numbers and the amplitudes alone.
+ */
+static void test_sum(struct numbers n, const uint32_t *amplitudes, uint64_t sum)
+{
+    static const uint32_t zero[24 * 1024];
+    struct arguments a = {0};
+    int accepted = sum < half_turn / n.M;
+    lawful(&a, &lookup, n, 1);
+    memset(slice_of(&a, BLOCKS)->at, 0, slice_of(&a, BLOCKS)->length);
+    memset(slice_of(&a, CLASSES)->at, 0, slice_of(&a, CLASSES)->length);
+    set_words(slice_of(&a, AMPLITUDES), amplitudes, (size_t)n.d);
+    make_call(&a, (struct answer){accepted ? 0 : 9, sum, accepted ? (UINT64_C(1) << n.d) - 1 : 0});
+    if (accepted)
+        check_written(&a, zero, 2 * (size_t)(n.N * (n.d + 2)));
+    free_arguments(&a);
+}
+
+/* Amplitudes that are small, rising or falling; and 2^31 first, last or everywhere. */
+enum pattern { NONE, ONES, RISING, FALLING, FIRST, LAST, ALL, PATTERNS };
+
+static uint32_t amplitude_at(enum pattern pattern, uint64_t i, uint64_t d)
+{
+    const uint64_t amplitudes[] = {0, 1, i, d - i, i == 0 ? half_turn : 1, i + 1 == d ? half_turn : 1, half_turn};
+    return (uint32_t)amplitudes[pattern];
+}
+
+static void test_patterns(struct numbers n)
+{
+    uint32_t amplitudes[MAX_D];
+    for (enum pattern pattern = NONE; pattern < PATTERNS; pattern++) {
+        uint64_t sum = 0;
+        for (uint64_t i = 0; i < n.d; i++) {
+            amplitudes[i] = amplitude_at(pattern, i, n.d);
+            sum += charge_of(gadget_of(n), n.N, amplitudes[i]);
+        }
+        at("a lookup's bound, amplitudes of pattern %d", (int)pattern);
+        test_sum(n, amplitudes, sum);
+    }
+}
+
+static void test_sums(struct gadget gadget)
+{
+    struct numbers n = {.s = 1, .g = gadget.g, .L = gadget.L};
+    for (n.M = 2; n.M <= 65536; n.M *= 32768)
+        for (n.N = 1; n.N <= 16; n.N *= 4)
+            for (n.d = 0; n.d <= 10; n.d += 1 + n.d / 3)
+                test_patterns(n);
+    n.M = 16;
+    n.N = 1024;
+    n.d = 2;
+    test_patterns(n);
+}
+
+/* Amplitudes with this sum, each but the last a third of what is left. */
+static void test_total(struct numbers n, uint64_t total, uint64_t sum)
+{
+    uint32_t amplitudes[MAX_D];
+    for (uint64_t i = 0; i < n.d; i++) {
+        amplitudes[i] = (uint32_t)(i + 1 < n.d ? total / 3 : total);
+        total -= amplitudes[i];
+    }
+    test_sum(n, amplitudes, sum);
+}
+
+/* The greatest total of amplitudes that is accepted, and the next one. */
+static void test_step(struct numbers n)
+{
+    uint64_t limit = half_turn / n.M, rounding = n.d * charge_of(gadget_of(n), n.N, 0);
+    uint64_t unit = charge_of(gadget_of(n), n.N, 1) - charge_of(gadget_of(n), n.N, 0);
+    uint64_t total = rounding < limit ? (limit - 1 - rounding) / unit : 0;
+    at("the greatest amplitudes, M = %" PRIu64, n.M);
+    test_total(n, total, rounding + total * unit);
+    test_total(n, total + 1, rounding + (total + 1) * unit);
+}
+
+static void test_steps(struct gadget gadget)
+{
+    struct numbers n = {.s = 1, .g = gadget.g, .L = gadget.L};
+    for (n.N = 1; n.N <= 8; n.N *= 8)
+        for (n.d = 1; n.d <= 10; n.d += n.d)
+            for (n.M = 2; n.M <= 65536; n.M *= 2)
+                test_step(n);
+}
+
+/*
+ * Bounds at 2^31/M - 1, 2^31/M and 2^31/M + 1 exactly: of all small degrees, numbers of selectors and numbers of
+ * classes, those for which some total of amplitudes makes just this sum.
+ *
+ * 2^31/M is even, and so is a charge but for its rounding, (1 + N)*E. So the two odd bounds need E = 1 and an even N,
+ * that is g = 1, L = 31, N from 2 up, and an odd number of selectors. For 2^31/M - 1, d must be N - 1 modulo N.
+ */
+static unsigned test_exact(struct gadget gadget, int64_t offset)
+{
+    struct numbers n = {.s = 1, .g = gadget.g, .L = gadget.L};
+    unsigned found = 0;
+    at("a bound of 2^31/M + (%" PRId64 ")", offset);
+    for (n.N = 1; n.N <= 8; n.N *= 2)
+        for (n.d = 1; n.d <= 10; n.d++)
+            for (n.M = 2; n.M <= 65536; n.M *= 2) {
+                uint64_t sum = (uint64_t)((int64_t)(half_turn / n.M) + offset);
+                uint64_t rounding = n.d * charge_of(gadget, n.N, 0);
+                uint64_t unit = charge_of(gadget, n.N, 1) - charge_of(gadget, n.N, 0);
+                if (sum < rounding || (sum - rounding) % unit)
+                    continue;
+                test_total(n, (sum - rounding) / unit, sum);
+                found++;
+            }
+    return found;
+}
+
+void test_limits(void)
+{
+    unsigned found[3] = {0};
+    for (uint64_t g = 1; g <= 16; g++)
+        for (uint64_t L = 1; g * L <= 32; L++) {
+            struct gadget gadget = {g, L};
+            test_sums(gadget);
+            test_steps(gadget);
+            for (int offset = -1; offset <= 1; offset++)
+                found[offset + 1] += test_exact(gadget, offset);
+        }
+    at("bounds at the limit");
+    for (int offset = -1; offset <= 1; offset++)
+        check(found[offset + 1] >= 3, "only %u bounds of 2^31/M + (%d) were found", found[offset + 1], offset);
+}

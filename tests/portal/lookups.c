@@ -1,0 +1,220 @@
+/*
+ * Random lookups for every degree: selectors are encrypted, an entry is looked up and decrypted. Not one class may be
+ * wrong, and no coefficient of the result's phase farther from the entry's exact encoding than the bound that is
+ * reported. Every word is compared with the tree in plain C. Jobs with too much noise must be refused.
+ */
+#include "portal.h"
+
+#include <inttypes.h>
+#include <stdio.h>
+#include <stdlib.h>
+
+enum { MAX_N = 1024, MAX_ROWS = 64, MAX_BLOCK = 2 * MAX_ROWS * MAX_N, MAX_TABLE = MAX_N << MAX_D };
+
+static const uint64_t half_turn = UINT64_C(0x80000000);
+
+/* One round: the selectors' bits are the binary digits of h, the number of the entry to be looked up. */
+struct round {
+    struct numbers n;
+    uint64_t h;
+    uint32_t key[MAX_N], amplitudes[MAX_D], blocks[MAX_D * MAX_BLOCK], classes[MAX_TABLE], sample[2 * MAX_N];
+};
+
+/* Jobs that were accepted and refused, and selectors with an error as great as their amplitude, which isn't 0. */
+static unsigned accepted, refused, greatest;
+
+static struct job job_of(const struct round *r)
+{
+    return (struct job){{r->n.g, r->n.L}, (size_t)r->n.N, (size_t)r->n.s, (size_t)r->n.d, r->n.M,
+                        r->blocks, r->amplitudes, r->classes};
+}
+
+static uint64_t limit(struct numbers n)
+{
+    return half_turn / n.M;
+}
+
+/* What a selector of amplitude 0 is charged, and every unit of an amplitude. */
+static uint64_t rounding(struct numbers n)
+{
+    return charge_of((struct gadget){n.g, n.L}, n.N, 0);
+}
+
+static uint64_t unit(struct numbers n)
+{
+    return charge_of((struct gadget){n.g, n.L}, n.N, 1) - rounding(n);
+}
+
+/* The greatest sum of amplitudes with which a job is accepted. */
+static uint64_t most_amplitudes(struct numbers n)
+{
+    return n.d * rounding(n) < limit(n) ? (limit(n) - 1 - n.d * rounding(n)) / unit(n) : 0;
+}
+
+/* How amplitudes are chosen: none; small; a share each; all for one selector; parts of the greatest sum, at random. */
+enum choice { NONE, SMALL, SHARES, ONE, PARTS, CHOICES };
+
+static void choose_amplitudes(struct round *r, enum choice choice)
+{
+    uint64_t d = r->n.d, left = most_amplitudes(r->n), share = d ? left / d : 0, one = below(d ? d : 1);
+    for (uint64_t i = 0; i < d; i++) {
+        uint64_t part = i + 1 < d ? below(left + 1) : left;
+        const uint64_t amplitudes[CHOICES] = {0, below(share < 3 ? share + 1 : 4), share, i == one ? left : 0, part};
+        r->amplitudes[i] = (uint32_t)amplitudes[choice];
+        if (choice == PARTS)
+            left -= part;
+    }
+}
+
+/* Random classes, or extremes at random. With amplitudes 0, in half of the tables all classes are the same. */
+static void choose_classes(struct round *r, enum choice choice)
+{
+    const uint64_t M = r->n.M, extremes[] = {0, M / 2, M - 1}, one = extremes[below(3)];
+    const int alike = choice == NONE && below(2), extreme = below(4) == 0;
+    for (uint64_t i = 0; i < r->n.s << r->n.d; i++)
+        r->classes[i] = (uint32_t)(alike ? one : extreme ? extremes[below(3)] : below(M));
+}
+
+/* Selector i: its errors are no greater than its amplitude, and often just as great. */
+static void encrypt_selector_of(struct round *r, size_t i)
+{
+    static uint32_t masks[MAX_ROWS * MAX_N], errors[MAX_ROWS * MAX_N];
+    struct arguments a = {0};
+    struct numbers n = r->n;
+    size_t words = 2 * (size_t)(n.L * n.N);
+    n.m = r->h >> i & 1;
+    choose_words(masks, words, half_turn);
+    choose_words(errors, words, r->amplitudes[i]);
+    lawful(&a, &encrypt_selector, n, below(UINT64_MAX));
+    set_words(slice_of(&a, KEY), r->key, (size_t)n.N);
+    set_words(slice_of(&a, ROW_MASKS), masks, words);
+    set_words(slice_of(&a, ROW_ERRORS), errors, words);
+    make_call(&a, (struct answer){0, greatest_magnitude(errors, words), 0});
+    greatest += r->amplitudes[i] > 0 && greatest_magnitude(errors, words) == r->amplitudes[i];
+    read_words(r->blocks + i * 2 * words, MAX_BLOCK, slice_of(&a, BLOCK));
+    free_arguments(&a);
+}
+
+/* Every coefficient of the phase, used or not, against the exact encoding of the entry that the bits name. */
+static void check_phase(const struct arguments *a, const struct round *r)
+{
+    struct job job = job_of(r);
+    uint64_t bound = charges_of(&job);
+    for (size_t i = 0; i < job.N; i++) {
+        uint32_t phase = phase_at(r->sample, r->key, job.N, i), want = entry_at(&job, (size_t)r->h, i);
+        check_call(a, magnitude(phase - want) <= bound,
+                   "phase %zu is %" PRIu32 ", more than %" PRIu64 " from %" PRIu32, i, phase, bound, want);
+    }
+}
+
+static void check_classes(const struct round *r)
+{
+    struct arguments a = {0};
+    lawful(&a, &decrypt_classes, r->n, below(UINT64_MAX));
+    set_words(slice_of(&a, KEY), r->key, (size_t)r->n.N);
+    set_words(slice_of(&a, SAMPLE), r->sample, 2 * (size_t)r->n.N);
+    make_call(&a, (struct answer){0, 0, 0});
+    check_written(&a, r->classes + r->h * r->n.s, (size_t)r->n.s);
+    free_arguments(&a);
+}
+
+static void set_job(struct arguments *a, const struct round *r)
+{
+    lawful(a, &lookup, r->n, below(UINT64_MAX));
+    set_words(slice_of(a, BLOCKS), r->blocks, (size_t)(r->n.d * 4 * r->n.L * r->n.N));
+    set_words(slice_of(a, AMPLITUDES), r->amplitudes, (size_t)r->n.d);
+    set_words(slice_of(a, CLASSES), r->classes, (size_t)(r->n.s << r->n.d));
+}
+
+/* The same job with the least amplitude of one selector that is too great. */
+static void refuse_round(struct arguments *a, const struct round *r)
+{
+    struct job job = job_of(r);
+    uint64_t sum = charges_of(&job), steps = (limit(r->n) - sum + unit(r->n) - 1) / unit(r->n);
+    size_t i = (size_t)below(r->n.d);
+    set_job(a, r);
+    put_word(slice_of(a, AMPLITUDES), i, (uint32_t)(r->amplitudes[i] + steps));
+    make_call(a, (struct answer){9, sum + steps * unit(r->n), 0});
+    refused++;
+}
+
+static void run_round(struct numbers n, enum choice choice)
+{
+    static struct round r;
+    struct arguments a = {0};
+    r.n = n;
+    r.h = below(UINT64_C(1) << n.d);
+    at("N = %" PRIu64 ", g = %" PRIu64 ", L = %" PRIu64 ", M = %" PRIu64 ", s = %" PRIu64 ", d = %" PRIu64
+       ", entry %" PRIu64 ", amplitudes of choice %d", n.N, n.g, n.L, n.M, n.s, n.d, r.h, (int)choice);
+    choose_key(r.key, (size_t)n.N);
+    choose_classes(&r, choice);
+    choose_amplitudes(&r, choice);
+    for (size_t i = 0; i < n.d; i++)
+        encrypt_selector_of(&r, i);
+    set_job(&a, &r);
+    if (accept_or_9(&a) == 0) {
+        accepted++;
+        read_words(r.sample, 2 * MAX_N, slice_of(&a, RESULT));
+        check_phase(&a, &r);
+        check_classes(&r);
+        if (n.d)
+            refuse_round(&a, &r);
+    } else {
+        refused++;
+    }
+    free_arguments(&a);
+}
+
+/* Half of the gadgets have as many digits as fit, so that little is rounded away. */
+static struct gadget any_gadget(void)
+{
+    uint64_t g = 1 + below(16), most = 32 / g;
+    return (struct gadget){g, below(2) ? most : 1 + below(most)};
+}
+
+/* A gadget and, if there is such, a number of classes with which amplitudes 0 are accepted. */
+static struct numbers any_numbers(uint64_t N, uint64_t d)
+{
+    struct gadget gadget = any_gadget();
+    const uint64_t s[] = {1, N, 1 + below(N), 1 + below(N)};
+    struct numbers n = {.N = N, .g = gadget.g, .L = gadget.L, .s = s[below(4)], .d = d};
+    n.M = UINT64_C(2) << below(16);
+    while (n.M > 2 && n.d * rounding(n) >= limit(n))
+        n.M /= 2;
+    return n;
+}
+
+/* About how many products of two words the tree takes. */
+static uint64_t products(struct numbers n)
+{
+    return ((UINT64_C(1) << n.d) - 1) * 4 * n.L * n.N * n.N;
+}
+
+/* Every number of selectors that a round has time for. */
+static void test_degree(uint64_t N)
+{
+    for (uint64_t d = 0; d <= MAX_D; d++)
+        for (enum choice choice = NONE; choice < CHOICES; choice++)
+            for (int turn = 0; turn < (N <= 64 ? 3 : 1); turn++) {
+                struct numbers n = any_numbers(N, d);
+                if (products(n) <= UINT64_C(1) << 27)
+                    run_round(n, choice);
+            }
+}
+
+int main(int argc, char **argv)
+{
+    uint64_t seed = argc > 1 ? strtoull(argv[1], NULL, 0) : UINT64_C(20240302);
+    start("lookups");
+    printf("lookups: seed %" PRIu64 "\n", seed);
+    seed_random(seed);
+    for (uint64_t N = 1; N <= MAX_N; N *= 2)
+        test_degree(N);
+    /* The largest table: 1,024 entries of 1,024 classes. */
+    run_round((struct numbers){.N = MAX_N, .g = 16, .L = 1, .M = 2, .s = MAX_N, .d = MAX_D}, SHARES);
+    printf("lookups: %u jobs accepted, %u refused; %u selectors with an error as great as their amplitude\n", accepted,
+           refused, greatest);
+    at("all rounds");
+    check(accepted > 400 && refused > 400 && greatest > 400, "too few jobs of a kind");
+    return finish();
+}
