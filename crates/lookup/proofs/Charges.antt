@@ -11,7 +11,8 @@ use Rattle.torus.specs.Bytes.{words}
 use Rattle.trgsw.specs.External.{charge}
 use Rattle.trgsw.proofs.Charges.{charge-le}
 use Rattle.lookup.specs.declared.tree.Parameters.{Parameters}
-use Rattle.lookup.specs.Lookup.{charges, Selectors}
+use Rattle.lookup.specs.Lookup.{charges}
+use Rattle.lookup.specs.Inner.{Selectors}
 
 module _ (N k g L W : ℕ) (amplitudes : List ℕ) where
   pub charges-none : charges N k g L W amplitudes 0 ≡ 0

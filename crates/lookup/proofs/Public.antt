@@ -9,7 +9,7 @@ use lib.Pow.{pow-mono}
 use Rattle.torus.specs.Bytes.{words, bytes}
 use Rattle.torus.proofs.Parts.{length-words, bytes-words, bytes-zero}
 use Rattle.lookup.specs.declared.tree.Parameters.{Parameters}
-use Rattle.lookup.specs.Lookup.{Selectors, Run}
+use Rattle.lookup.specs.Inner.{Selectors, Run}
 use Rattle.lookup.proofs.Accepted.{Findable}
 
 -- The numbers that the call hands on.

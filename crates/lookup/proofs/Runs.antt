@@ -14,7 +14,8 @@ use Rattle.torus.specs.Bytes.{words}
 use Rattle.torus.proofs.Parts.{length-words, words-take}
 use Rattle.trgsw.specs.External.{cmuxSample}
 use Rattle.lookup.specs.declared.tree.Parameters.{Parameters}
-use Rattle.lookup.specs.Lookup.{selector, blockSize, joinedSamples, Run}
+use Rattle.lookup.specs.Lookup.{selector, blockSize, joinedSamples}
+use Rattle.lookup.specs.Inner.{Run}
 use Rattle.lookup.proofs.Trees.{tree-zero, tree-suc}
 
 -- ---- the tree

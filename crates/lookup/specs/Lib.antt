@@ -1,3 +1,4 @@
 pub mod Tree
 pub mod Lookup
+pub mod Inner
 pub mod Calls

@@ -1,18 +1,12 @@
 -- A lookup on words, with k masks: its selectors, its entries, the tree's sample and the noise bound.
 -- Assumes nothing.
-use mathlib.Core.Path.{_≡_}
 use mathlib.Core.List.{List}
-use Prim.Native.Nat.{ℕ, suc, _*_, _^_, _≤_, _<_}
-use lib.ListN.{length, getD}
+use Prim.Native.Nat.{ℕ, suc, _*_}
+use lib.ListN.{getD}
 use Rattle.torus.specs.Sum.{sum, chunk}
-use Rattle.torus.specs.Bytes.{words}
-use Rattle.gadget.specs.Digits.{Lawful}
-use Rattle.ring.specs.Polynomial.{Degree}
-use Rattle.answers.specs.Checks.{ClassNumber}
 use Rattle.trlwe.specs.Classes.{message}
 use Rattle.trlwe.specs.Sample.{trivial}
 use Rattle.trgsw.specs.External.{cmuxSample, charge}
-use Rattle.lookup.specs.declared.tree.Parameters.{Parameters}
 use Rattle.lookup.specs.Tree.{tree}
 
 -- The words of a block: (k + 1)·L rows. "A selector block has 2·L samples as rows, 4·L·N words."
@@ -42,28 +36,3 @@ joinedSamples N k g L blocks entry d t = tree (λ i. cmuxSample N k g L (selecto
 -- "The bound is the sum of the d charges".
 unfoldable pub charges : (N k g L W : ℕ) (amplitudes : List ℕ) (d : ℕ) → ℕ
 charges N k g L W amplitudes d = sum d (λ i. charge N k g L W (getD amplitudes i 0))
-
--- What the code asks of the numbers of a lookup, for keys of up to W ones.
-pub record Admissible (p : Parameters) : Type 0 where
-  pub degree : Degree (p .n)
-  pub lawful : Lawful (p .g) (p .l)
-  pub masks : p .k ≤ 4
-  pub weight : p .w ≤ 4096
-  pub class-number : ClassNumber (p .m)
-  pub packed : p .s ≤ p .n
-
--- What it asks of the first d selectors: amplitudes up to 2^31.
-pub record Selectors (p : Parameters) (d : ℕ) (amplitudes : List ℕ) : Type 0 where
-  pub admissible : Admissible p
-  pub depth : d ≤ 16
-  pub amplitudes-length : 4 * d ≤ length amplitudes
-  pub small : (i : ℕ) → i < d → getD (words amplitudes) i 0 ≤ 2 ^ 31
-
--- What it asks of the slices, for run t of level d: their lengths in bytes, and classes below M.
-pub record Run (p : Parameters) (d t : ℕ) (sample work blocks : ℕ) (classes : List ℕ) : Type 0 where
-  pub entries : suc t * 2 ^ d ≤ 65536
-  pub sample-length : sample ≡ 4 * (suc (p .k) * p .n)
-  pub work-length : 4 * (d * (suc (p .k) * p .n)) ≤ work
-  pub blocks-length : 4 * (d * blockSize (p .n) (p .k) (p .l)) ≤ blocks
-  pub classes-length : 4 * (suc t * 2 ^ d * p .s) ≤ length classes
-  pub below : (i : ℕ) → i < length (words classes) → getD (words classes) i 0 < p .m

@@ -7,6 +7,7 @@ ghost use mathlib.Core.List.{_++_};
 ghost use Rattle.torus.specs.Bytes.{words};
 ghost use Rattle.trgsw.specs.External as External;
 ghost use Rattle.lookup.specs.Lookup as Lookup;
+ghost use Rattle.lookup.specs.Inner as Inner;
 
 // The numbers of a lookup: k masks, degree n, a gadget of l digits in base 2^g, keys of up to w ones, m classes, s of them in an
 // entry.
@@ -22,7 +23,7 @@ pub struct Parameters {
 
 // The charge of a CMux by selector i.
 fn charge_of(amplitudes: &[u8], p: Parameters, i: usize) -> u64
-    requires { ⌜ Lookup.Selectors p (suc i) (now amplitudes) ⌝ }
+    requires { ⌜ Inner.Selectors p (suc i) (now amplitudes) ⌝ }
     ensures { λ r. ⌜ r ≡ External.charge (p .n) (p .k) (p .g) (p .l) (p .w) (getD (words (now (amplitudes .entry))) i 0) ⌝ }
 {
     let amplitude = torus::word_at(amplitudes, i);
@@ -31,7 +32,7 @@ fn charge_of(amplitudes: &[u8], p: Parameters, i: usize) -> u64
 
 // The charges of the first d selectors, added up.
 pub fn charges(amplitudes: &[u8], p: Parameters, d: usize) -> u64
-    requires { ⌜ Lookup.Selectors p d (now amplitudes) ⌝ }
+    requires { ⌜ Inner.Selectors p d (now amplitudes) ⌝ }
     ensures { λ r. ⌜ r ≡ Lookup.charges (p .n) (p .k) (p .g) (p .l) (p .w) (words (now (amplitudes .entry))) d ⌝ }
 {
     let mut sum = 0;
@@ -45,7 +46,7 @@ pub fn charges(amplitudes: &[u8], p: Parameters, d: usize) -> u64
 
 // Entry t, as a trivial sample.
 fn write_entry(sample: &mut [u8], classes: &[u8], p: Parameters, t: usize)
-    requires { ⌜ Lookup.Admissible p × Lookup.Run p 0 t (length (now sample)) 0 0 (now classes) ⌝ }
+    requires { ⌜ Inner.Admissible p × Inner.Run p 0 t (length (now sample)) 0 0 (now classes) ⌝ }
     ensures { λ _. ⌜ words (now (sample .exit))
         ≡ Lookup.entrySample (p .n) (p .k) (p .m) (p .s) (words (now (classes .entry))) t ⌝ }
 {
@@ -73,7 +74,7 @@ fn join(
     i: usize,
     ledger: Ledger,
 ) -> Ledger
-    requires { ⌜ Lookup.Selectors p (suc i) (now amplitudes)
+    requires { ⌜ Inner.Selectors p (suc i) (now amplitudes)
         × (length (now sample) ≡ 4 * (suc (p .k) * p .n)) × (length (now sample) ≤ length (now work))
         × (4 * (suc i * Lookup.blockSize (p .n) (p .k) (p .l)) ≤ length (now blocks))
         × (ledger .bound + External.charge (p .n) (p .k) (p .g) (p .l) (p .w) (getD (words (now amplitudes)) i 0) < 2 ^ 64)
@@ -113,8 +114,8 @@ fn tree(
     t: usize,
     ledger: Ledger,
 ) -> Ledger
-    requires { ⌜ Lookup.Selectors p d (now amplitudes)
-        × Lookup.Run p d t (length (now sample)) (length (now work)) (length (now blocks)) (now classes)
+    requires { ⌜ Inner.Selectors p d (now amplitudes)
+        × Inner.Run p d t (length (now sample)) (length (now work)) (length (now blocks)) (now classes)
         × (ledger .bound + Lookup.charges (p .n) (p .k) (p .g) (p .l) (p .w) (words (now amplitudes)) d < 2 ^ 64)
         × (ledger .gates + 2 ^ d < 2 ^ 64) ⌝ }
     ensures { λ r. ⌜ (words (now (sample .exit)) ≡ Lookup.joinedSamples (p .n) (p .k) (p .g) (p .l) (words (now (blocks .entry)))
@@ -165,8 +166,8 @@ pub fn evaluate(
     p: Parameters,
     d: usize,
 ) -> Ledger
-    requires { ⌜ Lookup.Selectors p d (now amplitudes)
-        × Lookup.Run p d 0 (length (now sample)) (length (now work)) (length (now blocks)) (now classes)
+    requires { ⌜ Inner.Selectors p d (now amplitudes)
+        × Inner.Run p d 0 (length (now sample)) (length (now work)) (length (now blocks)) (now classes)
         × (4 * (length (now work) / 4) ≡ length (now work)) ⌝ }
     ensures { λ r. ⌜ (words (now (sample .exit)) ≡ Lookup.joinedSamples (p .n) (p .k) (p .g) (p .l) (words (now (blocks .entry)))
         (Lookup.entrySample (p .n) (p .k) (p .m) (p .s) (words (now (classes .entry)))) d 0)

@@ -15,7 +15,8 @@ use Rattle.answers.specs.Checks as Check
 use Rattle.answers.specs.Answers.{_orElse_, noise}
 use Rattle.answers.specs.declared.Answer.{Answer}
 use Rattle.answers.proofs.Laws.{stopped, went-on, first-orElse, triple-orElse, first-none, degree-held, gadget-held, class-number-held, count-held, depth-held, exact-held, amplitudes-held}
-use Rattle.lookup.specs.Lookup.{charges, Selectors}
+use Rattle.lookup.specs.Lookup.{charges}
+use Rattle.lookup.specs.Inner.{Selectors}
 use Rattle.lookup.specs.Calls as Calls
 use borrow.Author.Needs.{needs}
 use Rattle.lookup.proofs.lookup_answer.Statement.{statement}

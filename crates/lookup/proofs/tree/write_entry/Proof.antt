@@ -11,7 +11,7 @@ use Rattle.torus.proofs.Parts.{length-words, words-lent}
 use Rattle.trlwe.specs.Classes.{message}
 use Rattle.trlwe.specs.Sample.{trivial}
 use Rattle.lookup.specs.declared.tree.Parameters.{Parameters}
-use Rattle.lookup.specs.Lookup as Lookup
+use Rattle.lookup.specs.Inner as Inner
 use Rattle.lookup.proofs.Runs.{entry-inside}
 use borrow.Author.Needs.{needs}
 use Rattle.lookup.proofs.tree.write_entry.Statement.{statement}
@@ -22,7 +22,7 @@ lent : (t s p q : ℕ) (classes : List ℕ) → p ≡ t * (4 * s) → q ≡ 4 * 
 lent t s p q classes e f = words-lent (t * s) s p q classes (omega arith) f
 
 -- Its classes are below the limit.
-below : (r : Parameters) (t sample work blocks : ℕ) (classes part : List ℕ) → Lookup.Run r 0 t sample work blocks classes
+below : (r : Parameters) (t sample work blocks : ℕ) (classes part : List ℕ) → Inner.Run r 0 t sample work blocks classes
     → part ≡ chunk (r .s) t (words classes) → (i : ℕ) → i < r .s → getD part i 0 < r .m
 below r t sample work blocks classes part run e i l =
     rw (e, chunk-at (r .s) t (words classes) i l)
