@@ -28,11 +28,11 @@ use Rattle.trgsw.specs.Block.{Holds}
 use Rattle.trgsw.specs.External.{charge}
 use Rattle.trgsw.proofs.CallNoise.{weight-one}
 use Rattle.lookup.specs.Tree.{entryNumber}
-use Rattle.lookup.specs.Lookup.{selector, entryClasses, entryMessage, entrySample, joinedSamples, charges}
+use Rattle.lookup.specs.Lookup.{selector, entryClasses, entryMessage, entrySample, treeSample, charges}
 use Rattle.lookup.specs.Calls.{lookup, lookupSample}
 use Rattle.lookup.proofs.Accepted.{Findable, lookup-accepted, lookup-accepts}
-use Rattle.lookup.proofs.Trees.{tree-zero, entry-number-lt}
-use Rattle.lookup.proofs.Noise.{joined-below, length-joined-samples}
+use Rattle.lookup.proofs.Trees.{tree-none, entry-number-lt}
+use Rattle.lookup.proofs.Noise.{tree-sample-below, length-tree-sample}
 use Rattle.lookup.proofs.PublicEntries.{entry-word, entry-below, entry-bytes, public-near, public-classes}
 
 module _ (N g L M s d : ℕ) (blocks amplitudes classes sample work : List ℕ)
@@ -57,20 +57,20 @@ module _ (N g L M s d : ℕ) (blocks amplitudes classes sample work : List ℕ)
   below i l = ok .below i (omega (arith, length-words classes, ok .classes-length))
 
   pub lookup-bytes : lookupSample N g L M s d blocks amplitudes classes sample work
-      ≡ bytes (joinedSamples N 1 g L (words blocks) (entrySample N 1 M s (words classes)) d 0)
+      ≡ bytes (treeSample N 1 g L (words blocks) (entrySample N 1 M s (words classes)) d 0)
   unfolding lookupSample
   lookup-bytes = after-written _ _ _ e
 
   pub lookup-words : words (lookupSample N g L M s d blocks amplitudes classes sample work)
-      ≡ joinedSamples N 1 g L (words blocks) (entrySample N 1 M s (words classes)) d 0
+      ≡ treeSample N 1 g L (words blocks) (entrySample N 1 M s (words classes)) d 0
   lookup-words =
       ap words lookup-bytes
-      ∙ words-bytes _ (joined-below N 1 g L (words blocks) _ d 0 (entry-below M s (words classes) (ok .class-number) below N 1))
+      ∙ words-bytes _ (tree-sample-below N 1 g L (words blocks) _ d 0 (entry-below M s (words classes) (ok .class-number) below N 1))
 
   pub lookup-length : length (lookupSample N g L M s d blocks amplitudes classes sample work) ≡ 4 * (2 * N)
   lookup-length =
       ap length lookup-bytes ∙ length-bytes _
-      ∙ ap (λ n. 4 * n) (length-joined-samples N 1 g L (words blocks) _ d 0 (λ h. length-trivial N 1 _))
+      ∙ ap (λ n. 4 * n) (length-tree-sample N 1 g L (words blocks) _ d 0 (λ h. length-trivial N 1 _))
 
   -- ---- what it holds
 
@@ -157,9 +157,9 @@ pub lookup-none : (N g L M s : ℕ) (blocks amplitudes classes sample work : Lis
     → (lookupSample N g L M s 0 blocks amplitudes classes sample work ≡ bytes (entrySample N 1 M s (words classes) 0))
     × (bound (lookup N g L M s 0 blocks amplitudes classes sample work) ≡ 0)
     × (gates (lookup N g L M s 0 blocks amplitudes classes sample work) ≡ 0)
-unfolding joinedSamples sum
+unfolding treeSample sum
 lookup-none N g L M s blocks amplitudes classes sample work e = (
-  lookup-bytes N g L M s 0 blocks amplitudes classes sample work e ∙ ap bytes (tree-zero _ (entrySample N 1 M s (words classes)) 0 0 refl),
+  lookup-bytes N g L M s 0 blocks amplitudes classes sample work e ∙ ap bytes (tree-none _ (entrySample N 1 M s (words classes)) 0 0 refl),
   lookup-bound N g L M s 0 blocks amplitudes classes sample work e,
   lookup-gates N g L M s 0 blocks amplitudes classes sample work e,
 )

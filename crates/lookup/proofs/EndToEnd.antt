@@ -42,7 +42,7 @@ made-holds N g L m key masks errors room block amplitude made =
     rw (made .left) (λ r i lr li. le-trans (selector-holds N g L m key masks errors room (made .are-bytes) (made .accepted) r i lr li) (made .declared))
 
 -- Decryption is accepted, and leaves the classes of the entry that the encrypted bits name.
-pub sealed-lookup : (N g L M s d : ℕ) (bits : ℕ → ℕ) (masks errors room : ℕ → List ℕ) (key blocks amplitudes classes sample work out : List ℕ)
+pub encrypted-lookup : (N g L M s d : ℕ) (bits : ℕ → ℕ) (masks errors room : ℕ → List ℕ) (key blocks amplitudes classes sample work out : List ℕ)
     → number (lookup N g L M s d blocks amplitudes classes sample work) ≡ 0
     → Key N 1 key
     → ((i : ℕ) → i < d
@@ -51,7 +51,7 @@ pub sealed-lookup : (N g L M s d : ℕ) (bits : ℕ → ℕ) (masks errors room 
     → (number (decryptClasses N M s key (lookupSample N g L M s d blocks amplitudes classes sample work) out) ≡ 0)
     × (decryptClassesClasses N M s key (lookupSample N g L M s d blocks amplitudes classes sample work) out
     ≡ bytes (entryClasses s (entryNumber bits d) (words classes)))
-sealed-lookup N g L M s d bits masks errors room key blocks amplitudes classes sample work out e k made size =
+encrypted-lookup N g L M s d bits masks errors room key blocks amplitudes classes sample work out e k made size =
     let rule =
     accuracy N g L M s d bits key blocks amplitudes classes sample work out e k
     (λ i l. selector-accepted N g L (bits i) key _ _ _ (made i l .accepted) .bit)

@@ -26,7 +26,7 @@ use Rattle.trgsw.specs.Calls.{encryptSelector, encryptSelectorBlock}
 use Rattle.trgsw.proofs.CallNoise.{selector-holds}
 use Rattle.trgsw.proofs.Instance.{at-0, sampleRoom, keyJ, blockJ, key-J, holds-J, masksE, blockRoom, blockE, holds-E}
 use Rattle.lookup.specs.Tree.{tree, entryNumber}
-use Rattle.lookup.specs.Lookup.{selector, joinedSamples, charges}
+use Rattle.lookup.specs.Lookup.{selector, treeSample, charges}
 use Rattle.lookup.specs.Calls.{lookup, lookupSample}
 use Rattle.lookup.proofs.Accuracy.{accuracy}
 
@@ -47,41 +47,41 @@ abbrev pub workJ : List ℕ
 workJ = bytes (0 ∷ 0 ∷ 0 ∷ 0 ∷ [])
 
 -- The lookup is accepted, with the document's bound and gates.
-pub accepted-J : number (lookup 1 16 2 16 1 1 blockJ amplitudesJ classesJ sampleRoom workJ) ≡ 0
+pub job-accepted : number (lookup 1 16 2 16 1 1 blockJ amplitudesJ classesJ sampleRoom workJ) ≡ 0
 unfolding lookup _orElse_ charges sum charge precision words bytes ones allBelow
-accepted-J = refl
+job-accepted = refl
 
-pub bound-J : bound (lookup 1 16 2 16 1 1 blockJ amplitudesJ classesJ sampleRoom workJ) ≡ 917504
+pub job-bound : bound (lookup 1 16 2 16 1 1 blockJ amplitudesJ classesJ sampleRoom workJ) ≡ 917504
 unfolding lookup _orElse_ charges sum charge precision words bytes ones allBelow
-bound-J = refl
+job-bound = refl
 
-pub gates-J : gates (lookup 1 16 2 16 1 1 blockJ amplitudesJ classesJ sampleRoom workJ) ≡ 1
+pub job-gates : gates (lookup 1 16 2 16 1 1 blockJ amplitudesJ classesJ sampleRoom workJ) ≡ 1
 unfolding lookup _orElse_ charges sum charge precision words bytes ones allBelow
-gates-J = refl
+job-gates = refl
 
 -- "mask 0 0", "body 0 2147483648"
-pub result-J : words (lookupSample 1 16 2 16 1 1 blockJ amplitudesJ classesJ sampleRoom workJ) ≡ 0 ∷ 2147483648 ∷ []
+pub job-result : words (lookupSample 1 16 2 16 1 1 blockJ amplitudesJ classesJ sampleRoom workJ) ≡ 0 ∷ 2147483648 ∷ []
 unfolding lookupSample lookup _orElse_ after charges sum charge precision words bytes ones allBelow
-    joinedSamples tree trivial message encode cmuxSample polynomials joined tabulate external difference product digit rounded
-result-J = refl
+    treeSample tree trivial message encode cmuxSample polynomials joined tabulate external difference product digit rounded
+job-result = refl
 
 -- The block holds 1 within the amplitude, as the rule's premise has it.
-blocks-J : (i : ℕ) → i < 1 → Holds 1 1 16 2 1 (getD (words amplitudesJ) i 0) (words keyJ) (selector 1 1 2 i (words blockJ))
+job-holds : (i : ℕ) → i < 1 → Holds 1 1 16 2 1 (getD (words amplitudesJ) i 0) (words keyJ) (selector 1 1 2 i (words blockJ))
 unfolding words bytes
-blocks-J = at-0 (λ i. Holds 1 1 16 2 1 (getD (words amplitudesJ) i 0) (words keyJ) (selector 1 1 2 i (words blockJ))) holds-J
+job-holds = at-0 (λ i. Holds 1 1 16 2 1 (getD (words amplitudesJ) i 0) (words keyJ) (selector 1 1 2 i (words blockJ))) holds-J
 
 -- The rule applies: the phase is within the bound of what entry 1 says, and decryption gives its class.
-pub rule-J :
+pub job-rule :
     (distance (phase 1 1 (words keyJ) (words (lookupSample 1 16 2 16 1 1 blockJ amplitudesJ classesJ sampleRoom workJ)) 0) (8 * 2 ^ 28) ≤ 917504)
     × (number (decryptClasses 1 16 1 keyJ (lookupSample 1 16 2 16 1 1 blockJ amplitudesJ classesJ sampleRoom workJ) classRoom) ≡ 0)
     × (decryptClassesClasses 1 16 1 keyJ (lookupSample 1 16 2 16 1 1 blockJ amplitudesJ classesJ sampleRoom workJ) classRoom ≡ bytes (8 ∷ []))
 unfolding words bytes entryNumber sum message encode
-rule-J =
+job-rule =
     let rule =
-    accuracy 1 16 2 16 1 1 (λ i. 1) keyJ blockJ amplitudesJ classesJ sampleRoom workJ classRoom accepted-J key-J (λ i l. le-refl 1) blocks-J refl in (
+    accuracy 1 16 2 16 1 1 (λ i. 1) keyJ blockJ amplitudesJ classesJ sampleRoom workJ classRoom job-accepted key-J (λ i l. le-refl 1) job-holds refl in (
       subst (λ b.
           distance (phase 1 1 (words keyJ) (words (lookupSample 1 16 2 16 1 1 blockJ amplitudesJ classesJ sampleRoom workJ)) 0) (8 * 2 ^ 28) ≤ b)
-          bound-J (rule .0 0 (lit< tt)),
+          job-bound (rule .0 0 (lit< tt)),
       rule .1,
       rule .2,
     )
@@ -184,14 +184,14 @@ rule-FE =
 pub result-FE : words (lookupSample 1 16 2 16 1 2 blocksFE amplitudesFE classesFE sampleRoom workFE) ≡ 2654608328 ∷ 1580875556 ∷ []
 unfolding encryptSelectorBlock encryptSelector lookupSample lookup _orElse_ after charges charge precision words bytes ones allBelow
     encryptedBlock encryptedRow encryption body joined tabulate masked sum product
-    joinedSamples tree trivial message encode cmuxSample polynomials external difference digit rounded
+    treeSample tree trivial message encode cmuxSample polynomials external difference digit rounded
 result-FE = refl
 
 pub noise-FE :
     distance (phase 1 1 (words keyJ) (words (lookupSample 1 16 2 16 1 2 blocksFE amplitudesFE classesFE sampleRoom workFE)) 0) (12 * 2 ^ 28) ≡ 9052
 unfolding encryptSelectorBlock encryptSelector lookupSample lookup _orElse_ after charges charge precision words bytes ones allBelow
     encryptedBlock encryptedRow encryption body joined tabulate masked sum product
-    joinedSamples tree trivial message encode cmuxSample polynomials external difference digit rounded phase magnitude
+    treeSample tree trivial message encode cmuxSample polynomials external difference digit rounded phase magnitude
 noise-FE = refl
 
 -- ---- at the limit

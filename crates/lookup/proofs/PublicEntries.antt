@@ -22,9 +22,9 @@ use Rattle.trlwe.proofs.Phases.{trivial-phase, trivial-below}
 use Rattle.trlwe.proofs.Decrypted.{decrypted-near}
 use Rattle.trgsw.specs.Block.{Holds}
 use Rattle.lookup.specs.Tree.{entryNumber}
-use Rattle.lookup.specs.Lookup.{selector, entryClasses, entryMessage, entrySample, joinedSamples, charges}
+use Rattle.lookup.specs.Lookup.{selector, entryClasses, entryMessage, entrySample, treeSample, charges}
 use Rattle.lookup.proofs.Trees.{entry-number-lt}
-use Rattle.lookup.proofs.Noise.{joined-near}
+use Rattle.lookup.proofs.Noise.{tree-sample-near}
 
 -- Classes below M, with a number M of classes.
 module _ (M s : ℕ) (classes : List ℕ) (ok : ClassNumber M) (below : (i : ℕ) → i < length classes → getD classes i 0 < M) where
@@ -54,18 +54,18 @@ module _ (M s : ℕ) (classes : List ℕ) (ok : ClassNumber M) (below : (i : ℕ
       (holds : (i : ℕ) → i < d → Holds N k g L (bits i) (getD amplitudes i 0) K (selector N k L i blocks)) where
     -- The phase is within the charges of the encoding of the entry that the bits name.
     pub public-near : Close (2 ^ 32) N (charges N k g L W amplitudes d)
-        (phase N k K (joinedSamples N k g L blocks (entrySample N k M s classes) d 0)) (entryMessage M s (entryNumber bits d) classes)
+        (phase N k K (treeSample N k g L blocks (entrySample N k M s classes) d 0)) (entryMessage M s (entryNumber bits d) classes)
     public-near =
         let entry : ℕ → List ℕ = entrySample N k M s classes in
         let same : 0 * 2 ^ d + entryNumber bits d ≡ entryNumber bits d = omega arith in
         close-to
-        (subst (λ h. Close (2 ^ 32) N (charges N k g L W amplitudes d) (phase N k K (joinedSamples N k g L blocks entry d 0)) (phase N k K (entry h)))
-        same (joined-near N k g L W d 0 bits K blocks amplitudes entry lawful heavy bit holds (entry-below N k)))
+        (subst (λ h. Close (2 ^ 32) N (charges N k g L W amplitudes d) (phase N k K (treeSample N k g L blocks entry d 0)) (phase N k K (entry h)))
+        same (tree-sample-near N k g L W d 0 bits K blocks amplitudes entry lawful heavy bit holds (entry-below N k)))
         (entry-phase N k K (entryNumber bits d))
 
     -- Where the charges are below half of a band, the sample holds the classes of that entry.
     pub public-classes : s ≤ N → length classes ≡ s * 2 ^ d → charges N k g L W amplitudes d < 2 ^ 31 / M
-        → decrypted N k M s K (joinedSamples N k g L blocks (entrySample N k M s classes) d 0) ≡ entryClasses s (entryNumber bits d) classes
+        → decrypted N k M s K (treeSample N k g L blocks (entrySample N k M s classes) d 0) ≡ entryClasses s (entryNumber bits d) classes
     public-classes packed size quiet =
         let inside : entryNumber bits d * s + s ≤ length classes =
         omega (arith, chunk-inside (entryNumber bits d) (2 ^ d) s (entry-number-lt bits d bit), size) in

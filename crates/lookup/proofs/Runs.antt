@@ -14,24 +14,24 @@ use Rattle.torus.specs.Bytes.{words}
 use Rattle.torus.proofs.Parts.{length-words, words-take}
 use Rattle.trgsw.specs.External.{cmuxSample}
 use Rattle.lookup.specs.declared.tree.Parameters.{Parameters}
-use Rattle.lookup.specs.Lookup.{selector, blockSize, joinedSamples}
+use Rattle.lookup.specs.Lookup.{selector, blockSize, treeSample}
 use Rattle.lookup.specs.Inner.{Run}
-use Rattle.lookup.proofs.Trees.{tree-zero, tree-suc}
+use Rattle.lookup.proofs.Trees.{tree-none, tree-more}
 
 -- ---- the tree
 
 module _ (N k g L : ℕ) (blocks : List ℕ) (entry : ℕ → List ℕ) where
   -- A run of level 0 is an entry.
-  pub joined-none : (t : ℕ) → joinedSamples N k g L blocks entry 0 t ≡ entry t
-  unfolding joinedSamples
-  joined-none t = tree-zero _ entry 0 t refl
+  pub tree-sample-none : (t : ℕ) → treeSample N k g L blocks entry 0 t ≡ entry t
+  unfolding treeSample
+  tree-sample-none t = tree-none _ entry 0 t refl
 
   -- Selector e joins runs 2t and 2t + 1 of level e.
-  pub joined-more : (d e t : ℕ) → d ≡ e + 1
-      → joinedSamples N k g L blocks entry d t
-      ≡ cmuxSample N k g L (selector N k L e blocks) (joinedSamples N k g L blocks entry e (2 * t)) (joinedSamples N k g L blocks entry e (2 * t + 1))
-  unfolding joinedSamples
-  joined-more d e t h = tree-suc _ entry d e t h
+  pub tree-sample-more : (d e t : ℕ) → d ≡ e + 1
+      → treeSample N k g L blocks entry d t
+      ≡ cmuxSample N k g L (selector N k L e blocks) (treeSample N k g L blocks entry e (2 * t)) (treeSample N k g L blocks entry e (2 * t + 1))
+  unfolding treeSample
+  tree-sample-more d e t h = tree-more _ entry d e t h
 
 -- ---- levels
 

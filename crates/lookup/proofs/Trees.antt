@@ -57,15 +57,15 @@ entry-number-digit bits (suc d) h i l =
 -- ---- the tree
 
 -- "With d = 0 the result is the entry itself".
-pub tree-zero : {S : Type 0} (join : (i : ℕ) (x₀ x₁ : S) → S) (entry : (h : ℕ) → S) (d t : ℕ) → d ≡ 0 → tree join entry d t ≡ entry t
+pub tree-none : {S : Type 0} (join : (i : ℕ) (x₀ x₁ : S) → S) (entry : (h : ℕ) → S) (d t : ℕ) → d ≡ 0 → tree join entry d t ≡ entry t
 unfolding tree
-tree-zero join entry d t e = rw e refl
+tree-none join entry d t e = rw e refl
 
 -- The last selector joins what the others make of the two halves.
-pub tree-suc : {S : Type 0} (join : (i : ℕ) (x₀ x₁ : S) → S) (entry : (h : ℕ) → S) (d e t : ℕ) → d ≡ e + 1
+pub tree-more : {S : Type 0} (join : (i : ℕ) (x₀ x₁ : S) → S) (entry : (h : ℕ) → S) (d e t : ℕ) → d ≡ e + 1
     → tree join entry d t ≡ join e (tree join entry e (2 * t)) (tree join entry e (2 * t + 1))
 unfolding tree
-tree-suc join entry d e t h = ap (λ n. tree join entry n t) (h ∙ add-one e)
+tree-more join entry d e t h = ap (λ n. tree join entry n t) (h ∙ add-one e)
 
 -- What holds of every entry, and of two samples joined if it holds of both, holds of the tree's sample.
 pub tree-good : {S : Type 0} (Good : S → Type 0) (join : (i : ℕ) (x₀ x₁ : S) → S) (entry : (h : ℕ) → S) (d t : ℕ)

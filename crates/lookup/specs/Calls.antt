@@ -8,7 +8,7 @@ use Rattle.torus.specs.Bytes.{words, bytes}
 use Rattle.answers.specs.Checks as Check
 use Rattle.answers.specs.Answers.{_orElse_, noise, after}
 use Rattle.answers.specs.declared.Answer.{Answer}
-use Rattle.lookup.specs.Lookup.{entrySample, joinedSamples, charges}
+use Rattle.lookup.specs.Lookup.{entrySample, treeSample, charges}
 
 -- "The bound is the sum of the d charges; the gates are 2^d - 1." Refused with 9 if "the bound is 2^31/M or more".
 unfoldable pub lookup : (N g L M s d : ℕ) (blocks amplitudes classes sample work : List ℕ) → Answer
@@ -28,7 +28,7 @@ lookup N g L M s d blocks amplitudes classes sample work =
 unfoldable pub lookupSample : (N g L M s d : ℕ) (blocks amplitudes classes sample work : List ℕ) → List ℕ
 lookupSample N g L M s d blocks amplitudes classes sample work =
     after (lookup N g L M s d blocks amplitudes classes sample work)
-    (bytes (joinedSamples N 1 g L (words blocks) (entrySample N 1 M s (words classes)) d 0)) sample
+    (bytes (treeSample N 1 g L (words blocks) (entrySample N 1 M s (words classes)) d 0)) sample
 
 -- What it leaves in the work slice: "After acceptance the work slice is all 0."
 unfoldable pub lookupWork : (N g L M s d : ℕ) (blocks amplitudes classes sample work : List ℕ) → List ℕ

@@ -30,8 +30,8 @@ abbrev pub entrySample : (N k M s : ℕ) (classes : List ℕ) (h : ℕ) → List
 entrySample N k M s classes h = trivial N k (entryMessage M s h classes)
 
 -- The sample of run t of level d, whatever samples the entries are. A selector joins two samples by its CMux.
-unfoldable pub joinedSamples : (N k g L : ℕ) (blocks : List ℕ) (entry : (h : ℕ) → List ℕ) (d t : ℕ) → List ℕ
-joinedSamples N k g L blocks entry d t = tree (λ i. cmuxSample N k g L (selector N k L i blocks)) entry d t
+unfoldable pub treeSample : (N k g L : ℕ) (blocks : List ℕ) (entry : (h : ℕ) → List ℕ) (d t : ℕ) → List ℕ
+treeSample N k g L blocks entry d t = tree (λ i. cmuxSample N k g L (selector N k L i blocks)) entry d t
 
 -- "The bound is the sum of the d charges".
 unfoldable pub charges : (N k g L W : ℕ) (amplitudes : List ℕ) (d : ℕ) → ℕ

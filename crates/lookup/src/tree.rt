@@ -118,7 +118,7 @@ fn tree(
         × Inner.Run p d t (length (now sample)) (length (now work)) (length (now blocks)) (now classes)
         × (ledger .bound + Lookup.charges (p .n) (p .k) (p .g) (p .l) (p .w) (words (now amplitudes)) d < 2 ^ 64)
         × (ledger .gates + 2 ^ d < 2 ^ 64) ⌝ }
-    ensures { λ r. ⌜ (words (now (sample .exit)) ≡ Lookup.joinedSamples (p .n) (p .k) (p .g) (p .l) (words (now (blocks .entry)))
+    ensures { λ r. ⌜ (words (now (sample .exit)) ≡ Lookup.treeSample (p .n) (p .k) (p .g) (p .l) (words (now (blocks .entry)))
         (Lookup.entrySample (p .n) (p .k) (p .m) (p .s) (words (now (classes .entry)))) d t)
         × (r .bound ≡ ledger .bound
         + Lookup.charges (p .n) (p .k) (p .g) (p .l) (p .w) (words (now (amplitudes .entry))) d)
@@ -169,7 +169,7 @@ pub fn evaluate(
     requires { ⌜ Inner.Selectors p d (now amplitudes)
         × Inner.Run p d 0 (length (now sample)) (length (now work)) (length (now blocks)) (now classes)
         × (4 * (length (now work) / 4) ≡ length (now work)) ⌝ }
-    ensures { λ r. ⌜ (words (now (sample .exit)) ≡ Lookup.joinedSamples (p .n) (p .k) (p .g) (p .l) (words (now (blocks .entry)))
+    ensures { λ r. ⌜ (words (now (sample .exit)) ≡ Lookup.treeSample (p .n) (p .k) (p .g) (p .l) (words (now (blocks .entry)))
         (Lookup.entrySample (p .n) (p .k) (p .m) (p .s) (words (now (classes .entry)))) d 0)
         × (words (now (work .exit)) ≡ replicate (length (now (work .entry)) / 4) 0)
         × (r .bound ≡ Lookup.charges (p .n) (p .k) (p .g) (p .l) (p .w) (words (now (amplitudes .entry))) d)

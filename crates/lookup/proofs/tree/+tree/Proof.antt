@@ -10,7 +10,7 @@ use Rattle.torus.specs.Bytes.{words}
 use Rattle.trgsw.specs.External as External
 use Rattle.lookup.specs.Lookup as Lookup
 use Rattle.lookup.proofs.Charges.{charges-none, charges-more, fewer}
-use Rattle.lookup.proofs.Runs.{joined-none, joined-more, level-below, power-more, own-inside, blocks-inside, lower, branch-small, leaf, rest-length, front-kept}
+use Rattle.lookup.proofs.Runs.{tree-sample-none, tree-sample-more, level-below, power-more, own-inside, blocks-inside, lower, branch-small, leaf, rest-length, front-kept}
 use Prim.Native.Nat.{ℕ, _<_}
 use borrow.Fn.Kinds.{In}
 use borrow.Fn.PlainCycle.{Measures, is, falls, and}
@@ -80,8 +80,8 @@ tree-returns t c =
     let entry = Lookup.entrySample (p .n) (p .k) (p .m) (p .s) (words (a .classes .now)) in
     let z : a .d ≡ 0 = c .before .before .before .before .if1 .taken in (
       c .before .before .write-entry .ensures
-          ∙ sym (ap (λ (d : ℕ). Lookup.joinedSamples (p .n) (p .k) (p .g) (p .l) (words (a .blocks .now)) entry d (a .t)) z
-          ∙ joined-none (p .n) (p .k) (p .g) (p .l) (words (a .blocks .now)) entry (a .t)),
+          ∙ sym (ap (λ (d : ℕ). Lookup.treeSample (p .n) (p .k) (p .g) (p .l) (words (a .blocks .now)) entry d (a .t)) z
+          ∙ tree-sample-none (p .n) (p .k) (p .g) (p .l) (words (a .blocks .now)) entry (a .t)),
       omega (arith, ap (Lookup.charges (p .n) (p .k) (p .g) (p .l) (p .w) (words (a .amplitudes .now))) z, charges-none (p .n) (p .k) (p .g) (p .l) (p .w) (words (a .amplitudes .now))),
       omega (arith, ap (λ d. 2 ^ d) z),
     )
@@ -186,12 +186,12 @@ tree-returns-2 t c =
     let Y : List ℕ = c .before .before .before .before .before .before .before .before .before .before .before .tree2 .last .1 .0 in
     let fit : own ≤ length K = omega (arith, whole t (c .before .before .before .before .before .before .before .before .before .before .before .before .before .before .before .before .before), inside t (c .before .before .before .before .before .before .before .before .before .before .before .before .before .before .before .before .before .before .before .before .before .before .before .before .before .before .before)) in
     let kept : take (suc (p .k) * p .n) (words (take own K ++ (Y ++ drop (length K - own) (drop own K))))
-    ≡ Lookup.joinedSamples (p .n) (p .k) (p .g) (p .l) B entry (a .d - 1) (2 * a .t + 1) =
+    ≡ Lookup.treeSample (p .n) (p .k) (p .g) (p .l) B entry (a .d - 1) (2 * a .t + 1) =
     front-kept (suc (p .k) * p .n) own (length K - own) K Y (c .before .before .before .before .before .before .before .before .before .before .before .before .before .before .before .before .before .before .before .before .before .before .before .before .tree .last .0) _ (s .pre .1 .1 .sample-length) (c .before .before .before .before .before .before .before .before .before .before .before .before .before .before .before .before .before .before .before .before .before .before .before .before .tree .kept .0) fit (c .before .before .before .before .before .before .before .before .before .before .before .before .before .before .before .before .before .keep .ensures)
     ∙ c .before .before .before .before .before .before .before .before .before .before .before .before .before .before .before .before .before .before .before .before .before .before .before .before .tree .ensures .0 in (
       c .before .before .before .before .join .ensures .0
           ∙ ap₂ (External.cmuxSample (p .n) (p .k) (p .g) (p .l) (Lookup.selector (p .n) (p .k) (p .l) (a .d - 1) B)) (c .before .before .before .before .before .before .before .before .before .before .before .tree2 .ensures .0) kept
-          ∙ sym (joined-more (p .n) (p .k) (p .g) (p .l) B entry (a .d) (a .d - 1) (a .t) (level t (c .before .before .before .before .before .before .before .before .before .before .before .before .before .before .before .before .before .before .before .before .before .before .before .before .before .before .before))),
+          ∙ sym (tree-sample-more (p .n) (p .k) (p .g) (p .l) B entry (a .d) (a .d - 1) (a .t) (level t (c .before .before .before .before .before .before .before .before .before .before .before .before .before .before .before .before .before .before .before .before .before .before .before .before .before .before .before))),
       omega (arith, c .before .before .before .before .join .ensures .1, c .before .before .before .before .before .before .before .before .before .before .before .tree2 .ensures .1, c .before .before .before .before .before .before .before .before .before .before .before .before .beside .ensures .0, charged t (c .before .before .before .before .before .before .before .before .before .before .before .before .before .before .before .before .before .before .before .before .before .before .before .before .before .before .before)),
       omega (arith, c .before .before .before .before .join .ensures .2, c .before .before .before .before .before .before .before .before .before .before .before .tree2 .ensures .2, c .before .before .before .before .before .before .before .before .before .before .before .before .beside .ensures .1, c .before .before .before .before .before .before .before .before .before .before .before .before .before .before .before .before .before .before .before .before .before .before .before .before .tree .ensures .2, power-more (a .d) _ (level t (c .before .before .before .before .before .before .before .before .before .before .before .before .before .before .before .before .before .before .before .before .before .before .before .before .before .before .before))),
     )
