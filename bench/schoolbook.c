@@ -1,5 +1,5 @@
 // The product kernel and the CMux in plain C, modulo X^n + 1.
-// Compiled once for each level of optimisation, under the names SCHOOLBOOK and CMUX.
+// Compiled once for each level of optimisation, and once with SKIP_ZEROS, under the names SCHOOLBOOK and CMUX.
 #include <stddef.h>
 #include <stdint.h>
 #include <string.h>
@@ -16,6 +16,10 @@ static void write_digits(uint32_t *restrict digits, const uint32_t *restrict x, 
 static void add_product(uint32_t *restrict out, const uint32_t *restrict small, const uint32_t *restrict row, size_t n) {
     for (size_t i = 0; i < n; i++) {
         uint32_t d = small[i];
+#ifdef SKIP_ZEROS
+        if (d == 0)
+            continue;
+#endif
         for (size_t k = 0; k < n - i; k++)
             out[i + k] += d * row[k];
         for (size_t k = n - i; k < n; k++)

@@ -44,8 +44,9 @@
  * Charge          what an external product or a CMux adds to the noise, with a block of amplitude A:
  *                 2*L*N*2^(g-1)*A + (1 + N)*E.
  * Table           2^d entries of s classes each, in the order of their numbers, all classes of an entry
- *                 side by side. Binary digit i of an entry's number, digit 0 the lowest, is the bit of
- *                 selector i. The exact encoding of an entry is the message that holds its classes.
+ *                 side by side. The selectors name the entry whose number has the bit of selector i
+ *                 as its binary digit i, digit 0 the lowest. The exact encoding of an entry is the
+ *                 message that holds its classes.
  *
  *
  * CONVENTIONS

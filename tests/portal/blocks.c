@@ -10,8 +10,6 @@
 
 enum { MAX_N = 1024, MAX_ROWS = 64 };
 
-static const uint64_t half_turn = UINT64_C(0x80000000);
-
 /* Two packed samples with their messages and phases. */
 struct samples {
     uint32_t words[2][2 * MAX_N], message[2][MAX_N], phase[2][MAX_N];

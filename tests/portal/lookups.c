@@ -1,7 +1,8 @@
 /*
- * Random lookups for every degree: selectors are encrypted, an entry is looked up and decrypted. Not one class may be
- * wrong, and no coefficient of the result's phase farther from the entry's exact encoding than the bound that is
- * reported. Every word is compared with the tree in plain C. Jobs with too much noise must be refused.
+ * Random lookups for every degree with every number of selectors: these are encrypted, an entry is looked up and
+ * decrypted. Not one class may be wrong, and no coefficient of the result's phase farther from the entry's exact
+ * encoding than the bound that is reported. Every word is compared with the tree in plain C. Jobs with too much noise
+ * must be refused.
  */
 #include "portal.h"
 
@@ -11,8 +12,6 @@
 
 enum { MAX_N = 1024, MAX_ROWS = 64, MAX_BLOCK = 2 * MAX_ROWS * MAX_N, MAX_TABLE = MAX_N << MAX_D };
 
-static const uint64_t half_turn = UINT64_C(0x80000000);
-
 /* One round: the selectors' bits are the binary digits of h, the number of the entry to be looked up. */
 struct round {
     struct numbers n;
@@ -20,35 +19,16 @@ struct round {
     uint32_t key[MAX_N], amplitudes[MAX_D], blocks[MAX_D * MAX_BLOCK], classes[MAX_TABLE], sample[2 * MAX_N];
 };
 
-/* Jobs that were accepted and refused, and selectors with an error as great as their amplitude, which isn't 0. */
-static unsigned accepted, refused, greatest;
+/* Jobs that were accepted, by their N and d. */
+static unsigned accepted[MAX_N + 1][MAX_D + 1];
+
+/* Jobs that were refused, and selectors with an error as great as their amplitude, which isn't 0. */
+static unsigned refused, greatest;
 
 static struct job job_of(const struct round *r)
 {
     return (struct job){{r->n.g, r->n.L}, (size_t)r->n.N, (size_t)r->n.s, (size_t)r->n.d, r->n.M,
                         r->blocks, r->amplitudes, r->classes};
-}
-
-static uint64_t limit(struct numbers n)
-{
-    return half_turn / n.M;
-}
-
-/* What a selector of amplitude 0 is charged, and every unit of an amplitude. */
-static uint64_t rounding(struct numbers n)
-{
-    return charge_of((struct gadget){n.g, n.L}, n.N, 0);
-}
-
-static uint64_t unit(struct numbers n)
-{
-    return charge_of((struct gadget){n.g, n.L}, n.N, 1) - rounding(n);
-}
-
-/* The greatest sum of amplitudes with which a job is accepted. */
-static uint64_t most_amplitudes(struct numbers n)
-{
-    return n.d * rounding(n) < limit(n) ? (limit(n) - 1 - n.d * rounding(n)) / unit(n) : 0;
 }
 
 /* How amplitudes are chosen: none; small; a share each; all for one selector; parts of the greatest sum, at random. */
@@ -127,14 +107,30 @@ static void set_job(struct arguments *a, const struct round *r)
 }
 
 /* The same job with the least amplitude of one selector that is too great. */
-static void refuse_round(struct arguments *a, const struct round *r)
+static void refuse_amplitude(struct arguments *a, const struct round *r)
 {
     struct job job = job_of(r);
-    uint64_t sum = charges_of(&job), steps = (limit(r->n) - sum + unit(r->n) - 1) / unit(r->n);
+    uint64_t unit = unit_of(r->n), sum = charges_of(&job), steps = (limit_of(r->n) - sum + unit - 1) / unit;
     size_t i = (size_t)below(r->n.d);
     set_job(a, r);
     put_word(slice_of(a, AMPLITUDES), i, (uint32_t)(r->amplitudes[i] + steps));
-    make_call(a, (struct answer){9, sum + steps * unit(r->n), 0});
+    make_call(a, (struct answer){9, sum + steps * unit, 0});
+    refused++;
+}
+
+/* The same job with the least number of classes for which its noise is too great, if there is a lawful one. */
+static void refuse_classes(struct arguments *a, const struct round *r)
+{
+    struct job job = job_of(r);
+    struct numbers n = r->n;
+    uint64_t sum = charges_of(&job);
+    while (n.M <= 65536 && sum < limit_of(n))
+        n.M *= 2;
+    if (n.M > 65536)
+        return;
+    set_job(a, r);
+    *number_of(a, 'M') = n.M;
+    make_call(a, (struct answer){9, sum, 0});
     refused++;
 }
 
@@ -153,53 +149,90 @@ static void run_round(struct numbers n, enum choice choice)
         encrypt_selector_of(&r, i);
     set_job(&a, &r);
     if (accept_or_9(&a) == 0) {
-        accepted++;
+        accepted[n.N][n.d]++;
         read_words(r.sample, 2 * MAX_N, slice_of(&a, RESULT));
         check_phase(&a, &r);
         check_classes(&r);
+        refuse_classes(&a, &r);
         if (n.d)
-            refuse_round(&a, &r);
-    } else {
-        refused++;
+            refuse_amplitude(&a, &r);
     }
     free_arguments(&a);
 }
 
-/* Half of the gadgets have as many digits as fit, so that little is rounded away. */
-static struct gadget any_gadget(void)
+/* About how many products of two words the tree takes for each digit of the gadget. */
+static uint64_t products(uint64_t N, uint64_t d)
 {
-    uint64_t g = 1 + below(16), most = 32 / g;
+    return ((UINT64_C(1) << d) - 1) * 4 * N * N;
+}
+
+/* A round has time for so many products. One with a single digit may take more, and is then alone with its N and d. */
+static const uint64_t most_products = UINT64_C(1) << 27;
+
+static uint64_t most_digits(uint64_t N, uint64_t d)
+{
+    uint64_t digits = d ? most_products / products(N, d) : 32;
+    return digits < 1 ? 1 : digits < 32 ? digits : 32;
+}
+
+static unsigned rounds_of(uint64_t N, uint64_t d)
+{
+    return products(N, d) > most_products ? 1 : N <= 64 ? 3 * CHOICES : CHOICES;
+}
+
+/* Half of the gadgets have as many digits as they can, so that little is rounded away. */
+static struct gadget any_gadget(uint64_t digits)
+{
+    uint64_t g = 1 + below(16), most = 32 / g < digits ? 32 / g : digits;
     return (struct gadget){g, below(2) ? most : 1 + below(most)};
 }
 
-/* A gadget and, if there is such, a number of classes with which amplitudes 0 are accepted. */
+/* Whether amplitudes 0 are accepted. */
+static int is_quiet(struct numbers n)
+{
+    return n.d * rounding_of(n) < limit_of(n);
+}
+
+/*
+ * Numbers with which amplitudes 0 are accepted. For every lawful N, L and d some lawful g is great enough for two
+ * classes; then there are as many classes as were chosen, or fewer.
+ */
 static struct numbers any_numbers(uint64_t N, uint64_t d)
 {
-    struct gadget gadget = any_gadget();
+    struct gadget gadget = any_gadget(most_digits(N, d));
     const uint64_t s[] = {1, N, 1 + below(N), 1 + below(N)};
-    struct numbers n = {.N = N, .g = gadget.g, .L = gadget.L, .s = s[below(4)], .d = d};
-    n.M = UINT64_C(2) << below(16);
-    while (n.M > 2 && n.d * rounding(n) >= limit(n))
+    struct numbers n = {.N = N, .g = gadget.g, .L = gadget.L, .M = 2, .s = s[below(4)], .d = d};
+    while (!is_quiet(n))
+        n.g++;
+    for (n.M = UINT64_C(2) << below(16); !is_quiet(n);)
         n.M /= 2;
     return n;
 }
 
-/* About how many products of two words the tree takes. */
-static uint64_t products(struct numbers n)
+/* Where there is one round alone, its entries have all N classes: the last has 1,024 entries of 1,024 classes. */
+static void test_pair(uint64_t N, uint64_t d)
 {
-    return ((UINT64_C(1) << n.d) - 1) * 4 * n.L * n.N * n.N;
+    unsigned rounds = rounds_of(N, d);
+    for (unsigned i = 0; i < rounds; i++) {
+        struct numbers n = any_numbers(N, d);
+        if (rounds == 1)
+            n.s = N;
+        run_round(n, rounds == 1 ? SHARES : (enum choice)(i % CHOICES));
+    }
 }
 
-/* Every number of selectors that a round has time for. */
-static void test_degree(uint64_t N)
+/* Every round of every N and d has had its job accepted. Returns how many that are. */
+static unsigned check_plan(void)
 {
-    for (uint64_t d = 0; d <= MAX_D; d++)
-        for (enum choice choice = NONE; choice < CHOICES; choice++)
-            for (int turn = 0; turn < (N <= 64 ? 3 : 1); turn++) {
-                struct numbers n = any_numbers(N, d);
-                if (products(n) <= UINT64_C(1) << 27)
-                    run_round(n, choice);
-            }
+    unsigned sum = 0;
+    for (uint64_t N = 1; N <= MAX_N; N *= 2)
+        for (uint64_t d = 0; d <= MAX_D; d++) {
+            at("N = %" PRIu64 ", d = %" PRIu64, N, d);
+            check(accepted[N][d] > 0 && accepted[N][d] == rounds_of(N, d), "%u jobs were accepted, not %u",
+                  accepted[N][d], rounds_of(N, d));
+            sum += accepted[N][d];
+        }
+    return sum;
 }
 
 int main(int argc, char **argv)
@@ -209,12 +242,11 @@ int main(int argc, char **argv)
     printf("lookups: seed %" PRIu64 "\n", seed);
     seed_random(seed);
     for (uint64_t N = 1; N <= MAX_N; N *= 2)
-        test_degree(N);
-    /* The largest table: 1,024 entries of 1,024 classes. */
-    run_round((struct numbers){.N = MAX_N, .g = 16, .L = 1, .M = 2, .s = MAX_N, .d = MAX_D}, SHARES);
-    printf("lookups: %u jobs accepted, %u refused; %u selectors with an error as great as their amplitude\n", accepted,
-           refused, greatest);
+        for (uint64_t d = 0; d <= MAX_D; d++)
+            test_pair(N, d);
+    printf("lookups: %u jobs accepted, %u refused; %u selectors with an error as great as their amplitude\n",
+           check_plan(), refused, greatest);
     at("all rounds");
-    check(accepted > 400 && refused > 400 && greatest > 400, "too few jobs of a kind");
+    check(refused > 400 && greatest > 400, "too few jobs of a kind");
     return finish();
 }

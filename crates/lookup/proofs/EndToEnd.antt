@@ -1,4 +1,4 @@
--- A whole sealed lookup, of the calls' own definitions: the broker encrypts each selector's bit, the evaluator looks up with the blocks
+-- A lookup from encryption to decryption, of the calls' own definitions: the broker encrypts each selector's bit, the evaluator looks up with the blocks
 -- that these calls left, and the broker decrypts what the lookup left. The premise of the accuracy rule that each block holds its bit
 -- within its amplitude is met by encryption, if no amplitude is declared below the bound that the encryption reported.
 -- Assumes nothing.
@@ -10,23 +10,24 @@ use native.Mathlib.Omega.{arith}
 use lib.ListN.{length, getD}
 use Rattle.torus.specs.Sum.{chunk}
 use Rattle.torus.specs.Bytes.{AreBytes, words, bytes}
-use Rattle.torus.proofs.Parts.{words-lent}
+use Rattle.torus.proofs.Joined.{words-chunk}
 use Rattle.answers.specs.Answers.{number, bound}
 use Rattle.trlwe.specs.Sample.{Key}
 use Rattle.trlwe.specs.Calls.{decryptClasses, decryptClassesClasses}
-use Rattle.trgsw.specs.Block.{Holds}
+use Rattle.trgsw.specs.Block.{blockSize, Holds}
 use Rattle.trgsw.specs.Calls.{encryptSelector, encryptSelectorBlock}
 use Rattle.trgsw.proofs.Accepted.{selector-accepted}
 use Rattle.trgsw.proofs.CallNoise.{selector-holds}
 use Rattle.lookup.specs.Tree.{entryNumber}
-use Rattle.lookup.specs.Lookup.{blockSize, selector, entryClasses}
+use Rattle.lookup.specs.Lookup.{selector, entryClasses}
 use Rattle.lookup.specs.Calls.{lookup, lookupSample}
 use Rattle.lookup.proofs.Accuracy.{accuracy}
 
 -- Selector i of the lent blocks is the block of 4·L·N words, 16·L·N bytes, at its place.
 selector-lent : (N L i : ℕ) (blocks : List ℕ) → words (chunk (16 * L * N) i blocks) ≡ selector N 1 L i (words blocks)
 selector-lent N L i blocks =
-    words-lent (i * blockSize N 1 L) (blockSize N 1 L) (i * (16 * L * N)) (16 * L * N) blocks (omega arith) (omega arith)
+    let size : 16 * L * N ≡ 4 * blockSize N 1 L = omega arith in
+    rw size (words-chunk (blockSize N 1 L) i blocks)
 
 -- A lent block is what an accepted encryption of bit m left, and the declared amplitude is no less than the bound that it reported.
 pub record Made (N g L m : ℕ) (key masks errors room block : List ℕ) (amplitude : ℕ) : Type 0 where

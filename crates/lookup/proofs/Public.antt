@@ -1,4 +1,4 @@
--- The arguments of an accepted call are what the code asks for: one mask, and keys of up to N ones.
+-- The arguments of an accepted call are what the code asks for.
 -- Assumes nothing.
 use mathlib.Core.Path.{_≡_, sym, ap, _∙_}
 use mathlib.Core.List.{List}
@@ -8,42 +8,44 @@ use lib.ListN.{length, getD, replicate}
 use lib.Pow.{pow-mono}
 use Rattle.torus.specs.Bytes.{words, bytes}
 use Rattle.torus.proofs.Parts.{length-words, bytes-words, bytes-zero}
+use Rattle.gadget.specs.Digits.{Lawful}
+use Rattle.ring.specs.Polynomial.{Degree}
+use Rattle.answers.specs.Checks.{ClassNumber}
 use Rattle.lookup.specs.declared.tree.Parameters.{Parameters}
-use Rattle.lookup.specs.Inner.{Selectors, Run}
+use Rattle.lookup.specs.Inner.{Public, Selectors, Run}
 use Rattle.lookup.proofs.Accepted.{Findable}
 
--- The numbers that the call hands on.
-abbrev pub Public : (p : Parameters) (N g L M s : ℕ) → Type 0
-Public p N g L M s = (p .k ≡ 1) × (p .n ≡ N) × (p .g ≡ g) × (p .l ≡ L) × (p .w ≡ N) × (p .m ≡ M) × (p .s ≡ s)
+-- The selectors, before the noise is tested.
+pub public-selectors : (p : Parameters) (N g L M s d : ℕ) (amplitudes : List ℕ) → Public p N g L M s
+    → Degree N → Lawful g L → ClassNumber M → s ≤ N → d ≤ 10 → length amplitudes ≡ 4 * d
+    → ((i : ℕ) → i < d → getD (words amplitudes) i 0 ≤ 2 ^ 31) → Selectors p d amplitudes
+public-selectors p N g L M s d amplitudes e degree lawful class-number most depth size small = record {
+  admissible = record {
+    degree = rw (e .1) degree;
+    lawful = rw (e .2, e .3) lawful;
+    masks = omega (arith, e .0);
+    weight = omega (arith, e .4, degree .most);
+    class-number = rw (e .5) class-number;
+    packed = omega (arith, e .1, e .6);
+  };
+  depth = omega arith;
+  amplitudes-length = omega arith;
+  small = small;
+}
 
-module _ (p : Parameters) (N g L M s d : ℕ) (blocks amplitudes classes sample work : List ℕ)
-    (e : Public p N g L M s) (ok : Findable N g L M s d blocks amplitudes classes sample work) where
-  pub public-selectors : Selectors p d amplitudes
-  public-selectors = record {
-    admissible = record {
-      degree = rw (e .1) (ok .degree);
-      lawful = rw (e .2, e .3) (ok .lawful);
-      masks = omega (arith, e .0);
-      weight = omega (arith, e .4, ok .degree .most);
-      class-number = rw (e .5) (ok .class-number);
-      packed = omega (arith, e .1, e .6, ok .most);
-    };
-    depth = omega (arith, ok .depth);
-    amplitudes-length = omega (arith, ok .amplitudes-length);
-    small = ok .small;
-  }
-
-  pub public-run : Run p d 0 (length sample) (length work) (length blocks) classes
-  public-run =
-      let few : 2 ^ d ≤ 2 ^ 10 = pow-mono {i = d} {j = 10} (ok .depth) in
-      record {
-        entries = omega arith;
-        sample-length = rw (e .0, e .1) (omega (arith, ok .sample-length));
-        work-length = rw (e .0, e .1) (omega (arith, ok .work-length));
-        blocks-length = rw (e .0, e .1, e .3) (omega (arith, ok .blocks-length));
-        classes-length = rw (e .6) (omega (arith, ok .classes-length));
-        below = rw (e .5) (λ i l. ok .below i (omega (arith, length-words classes, ok .classes-length)));
-      }
+-- The slices.
+pub public-run : (p : Parameters) (N g L M s d : ℕ) (blocks amplitudes classes sample work : List ℕ) → Public p N g L M s
+    → Findable N g L M s d blocks amplitudes classes sample work → Run p d 0 (length sample) (length work) (length blocks) classes
+public-run p N g L M s d blocks amplitudes classes sample work e ok =
+    let few : 2 ^ d ≤ 2 ^ 10 = pow-mono {i = d} {j = 10} (ok .job .depth) in
+    record {
+      entries = omega arith;
+      sample-length = rw (e .0, e .1) (omega (arith, ok .job .sample-length));
+      work-length = rw (e .0, e .1) (omega (arith, ok .job .work-length));
+      blocks-length = rw (e .0, e .1, e .3) (omega (arith, ok .job .blocks-length));
+      classes-length = rw (e .6) (omega (arith, ok .job .classes-length));
+      below = rw (e .5) (λ i l. ok .job .below i (omega (arith, length-words classes, ok .job .classes-length)));
+    }
 
 -- A slice of words that are 0.
 pub cleared : (k : ℕ) (out : List ℕ) → length out ≡ 4 * k → ((i : ℕ) → getD out i 0 < 256) → words out ≡ replicate (length out / 4) 0

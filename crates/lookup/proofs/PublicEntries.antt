@@ -10,8 +10,8 @@ use lib.ListN.{length, getD}
 use Rattle.torus.specs.Sum.{sum, chunk}
 use Rattle.torus.specs.Bytes.{AreBytes, words, bytes}
 use Rattle.torus.proofs.Lists.{all-below}
-use Rattle.torus.proofs.Joined.{chunk-inside, chunk-below, length-chunk}
-use Rattle.torus.proofs.Parts.{words-lent, bytes-words}
+use Rattle.torus.proofs.Joined.{chunk-inside, chunk-below, length-chunk, words-chunk}
+use Rattle.torus.proofs.Parts.{bytes-words}
 use Rattle.gadget.specs.Digits.{Lawful}
 use Rattle.ring.specs.Polynomial.{coefficients, Agree}
 use Rattle.ring.proofs.Close.{Close, close-to}
@@ -77,6 +77,4 @@ module _ (M s : ℕ) (classes : List ℕ) (ok : ClassNumber M) (below : (i : ℕ
 pub entry-bytes : (s h : ℕ) (classes : List ℕ) → AreBytes classes → h * (4 * s) + 4 * s ≤ length classes
     → bytes (entryClasses s h (words classes)) ≡ chunk (4 * s) h classes
 entry-bytes s h classes cb inside =
-    let same : words (chunk (4 * s) h classes) ≡ entryClasses s h (words classes) =
-    words-lent (h * s) s (h * (4 * s)) (4 * s) classes (omega arith) (omega arith) in
-    rw (← same) (bytes-words s (chunk (4 * s) h classes) (length-chunk (4 * s) h classes inside) (chunk-below 256 (4 * s) h classes (lit< tt) cb))
+    rw (← words-chunk s h classes) (bytes-words s (chunk (4 * s) h classes) (length-chunk (4 * s) h classes inside) (chunk-below 256 (4 * s) h classes (lit< tt) cb))

@@ -1,7 +1,7 @@
 -- The number of the entry that a lookup picks, and the tree: its clauses as equations, and that of its result the phase is, within
 -- the sum of the charges, that of the entry. Samples are of any kind.
 -- Assumes nothing.
-use mathlib.Core.Path.{_≡_, refl, ap, _∙_}
+use mathlib.Core.Path.{_≡_, refl, ap, ap₂, _∙_}
 use mathlib.Core.Logic.{_⊎_, inl, inr}
 use Prim.Native.Nat.{ℕ, zero, suc, _+_, _-_, _*_, _/_, _%_, _^_, _≤_, _<_}
 use native.Mathlib.Nat.{le-refl, le-of-eq, add-comm, mod-eq-of-lt, add-mul-div-right, add-mul-mod-self-right, two-pow-succ, mul-le-mul, eq-or-lt-of-le, le-of-suc-le-suc}
@@ -66,6 +66,14 @@ pub tree-more : {S : Type 0} (join : (i : ℕ) (x₀ x₁ : S) → S) (entry : (
     → tree join entry d t ≡ join e (tree join entry e (2 * t)) (tree join entry e (2 * t + 1))
 unfolding tree
 tree-more join entry d e t h = ap (λ n. tree join entry n t) (h ∙ add-one e)
+
+-- Level by level: "Selector 0 joins entries 2t and 2t + 1, selector 1 joins those results, and so on." The results of selector 0 are the
+-- entries of a tree of the other selectors.
+pub tree-levels : {S : Type 0} (join : (i : ℕ) (x₀ x₁ : S) → S) (entry : (h : ℕ) → S) (d t : ℕ)
+    → tree join entry (suc d) t ≡ tree (λ i. join (suc i)) (λ u. join 0 (entry (2 * u)) (entry (2 * u + 1))) d t
+unfolding tree
+tree-levels join entry zero t = refl
+tree-levels join entry (suc d) t = ap₂ (join (suc d)) (tree-levels join entry d (2 * t)) (tree-levels join entry d (2 * t + 1))
 
 -- What holds of every entry, and of two samples joined if it holds of both, holds of the tree's sample.
 pub tree-good : {S : Type 0} (Good : S → Type 0) (join : (i : ℕ) (x₀ x₁ : S) → S) (entry : (h : ℕ) → S) (d t : ℕ)

@@ -9,8 +9,12 @@ use Rattle.torus.specs.Bytes.{words}
 use Rattle.gadget.specs.Digits.{Lawful}
 use Rattle.ring.specs.Polynomial.{Degree}
 use Rattle.answers.specs.Checks.{ClassNumber}
+use Rattle.trgsw.specs.Block.{blockSize}
 use Rattle.lookup.specs.declared.tree.Parameters.{Parameters}
-use Rattle.lookup.specs.Lookup.{blockSize}
+
+-- The numbers that the public call hands on: one mask, and keys of up to N ones.
+abbrev pub Public : (p : Parameters) (N g L M s : ℕ) → Type 0
+Public p N g L M s = (p .k ≡ 1) × (p .n ≡ N) × (p .g ≡ g) × (p .l ≡ L) × (p .w ≡ N) × (p .m ≡ M) × (p .s ≡ s)
 
 -- Of the numbers of a lookup.
 pub record Admissible (p : Parameters) : Type 0 where

@@ -1,17 +1,14 @@
 -- A lookup on words, with k masks: its selectors, its entries, the tree's sample and the noise bound.
 -- Assumes nothing.
 use mathlib.Core.List.{List}
-use Prim.Native.Nat.{ℕ, suc, _*_}
+use Prim.Native.Nat.{ℕ}
 use lib.ListN.{getD}
 use Rattle.torus.specs.Sum.{sum, chunk}
 use Rattle.trlwe.specs.Classes.{message}
 use Rattle.trlwe.specs.Sample.{trivial}
+use Rattle.trgsw.specs.Block.{blockSize}
 use Rattle.trgsw.specs.External.{cmuxSample, charge}
 use Rattle.lookup.specs.Tree.{tree}
-
--- The words of a block: (k + 1)·L rows. "A selector block has 2·L samples as rows, 4·L·N words."
-abbrev pub blockSize : (N k L : ℕ) → ℕ
-blockSize N k L = suc k * L * (suc k * N)
 
 -- The block of selector i. A lookup has the blocks of its selectors one after another.
 abbrev pub selector : (N k L i : ℕ) (blocks : List ℕ) → List ℕ

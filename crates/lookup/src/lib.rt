@@ -1,4 +1,4 @@
-// Lookups: the entry of a public table that sealed selector bits name, as a sample, without the key. Inside, samples have k
+// Lookups: the entry of a public table that encrypted selector bits name, as a sample, without the key. Inside, samples have k
 // masks; the public call passes k = 1.
 pub mod tree;
 
@@ -8,6 +8,7 @@ ghost use mathlib.Core.Path.{_≡_};
 ghost use Prim.Native.Nat.{_^_, _≤_};
 ghost use Rattle.ring.specs.Polynomial.{Degree};
 ghost use Rattle.gadget.specs.Digits.{Lawful};
+ghost use Rattle.lookup.specs.Inner as Inner;
 ghost use Rattle.lookup.specs.Calls as Calls;
 
 // The number of entries: 2^d.
@@ -21,7 +22,7 @@ fn entries(d: u64) -> u64
 // The numbers of the public call: one mask, and keys of up to n ones.
 fn parameters(n: u64, g: u64, l: u64, m: u64, s: u64) -> Parameters
     requires { ⌜ Degree n × Lawful g l × (s ≤ n) ⌝ }
-    ensures { λ p. ⌜ (p .k ≡ 1) × (p .n ≡ n) × (p .g ≡ g) × (p .l ≡ l) × (p .w ≡ n) × (p .m ≡ m) × (p .s ≡ s) ⌝ }
+    ensures { λ p. ⌜ Inner.Public p n g l m s ⌝ }
 {
     let degree = n as usize;
     let bits = g as u32;

@@ -5,6 +5,7 @@ ghost use Prim.Native.Nat.{suc, _+_, _*_, _/_, _-_, _^_, _≤_, _<_};
 ghost use lib.ListN.{length, getD, take, drop, replicate};
 ghost use mathlib.Core.List.{_++_};
 ghost use Rattle.torus.specs.Bytes.{words};
+ghost use Rattle.trgsw.specs.Block as Block;
 ghost use Rattle.trgsw.specs.External as External;
 ghost use Rattle.lookup.specs.Lookup as Lookup;
 ghost use Rattle.lookup.specs.Inner as Inner;
@@ -58,13 +59,15 @@ fn write_entry(sample: &mut [u8], classes: &[u8], p: Parameters, t: usize)
 // Keeps a sample at the front of work.
 fn keep(work: &mut [u8], sample: &[u8])
     requires { ⌜ (4 * (length (now sample) / 4) ≡ length (now sample)) × (length (now sample) ≤ length (now work)) ⌝ }
-    ensures { λ _. ⌜ words (now (work .exit)) ≡ words (now (sample .entry)) ++ drop (length (now (sample .entry)) / 4) (words (now (work .entry))) ⌝ }
+    ensures { λ _. ⌜ words (now (work .exit))
+        ≡ words (now (sample .entry)) ++ drop (length (now (sample .entry)) / 4) (words (now (work .entry))) ⌝ }
 {
     let own = sample.len();
     torus::copy_words(&mut work[0..own], sample, own / 4);
 }
 
-// The CMux by selector i of sample and the sample that is kept at the front of work. The ledger is raised by its charge.
+// The CMux by selector i of two samples: sample0 in `sample`, where the result goes, and sample1 at the front of work. The ledger is
+// raised by its charge.
 fn join(
     sample: &mut [u8],
     work: &mut [u8],
@@ -76,7 +79,7 @@ fn join(
 ) -> Ledger
     requires { ⌜ Inner.Selectors p (suc i) (now amplitudes)
         × (length (now sample) ≡ 4 * (suc (p .k) * p .n)) × (length (now sample) ≤ length (now work))
-        × (4 * (suc i * Lookup.blockSize (p .n) (p .k) (p .l)) ≤ length (now blocks))
+        × (4 * (suc i * Block.blockSize (p .n) (p .k) (p .l)) ≤ length (now blocks))
         × (ledger .bound + External.charge (p .n) (p .k) (p .g) (p .l) (p .w) (getD (words (now amplitudes)) i 0) < 2 ^ 64)
         × (ledger .gates + 1 < 2 ^ 64) ⌝ }
     ensures { λ r. ⌜ (words (now (sample .exit)) ≡ External.cmuxSample (p .n) (p .k) (p .g) (p .l)

@@ -31,6 +31,10 @@ chunk-below m n c l some below =
     all-below m (chunk n c l) some
     (λ i h. let inside : i < n = omega (arith, length-take n (drop (c * n) l)) in rw (chunk-at n c l i inside) (below (c * n + i)))
 
+-- A part of the words, lent as bytes.
+pub words-chunk : (m c : ℕ) (s : List ℕ) → words (chunk (4 * m) c s) ≡ chunk m c (words s)
+words-chunk m c s = words-lent (c * m) m (c * (4 * m)) (4 * m) s (omega arith) refl
+
 -- Parts of one length, as far as the n-th.
 abbrev pub Each : (n m : ℕ) → (ℕ → List ℕ) → Type 0
 Each n m f = (c : ℕ) → c < n → length (f c) ≡ m

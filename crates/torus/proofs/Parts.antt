@@ -116,6 +116,11 @@ words-back a k p q xs ys e f h g =
     ∙ ap (λ (l : List ℕ). words (take p xs) ++ l) (words-append k ys (drop q (drop p xs)) ly)
     ∙ rw (e, f, words-take, words-drop, words-drop)
 
+-- The front of a slice, of n words, that was lent as `&mut xs[0..q]` is back as ys.
+pub front-back : (n q : ℕ) (xs ys : List ℕ) → q ≡ 4 * n → length ys ≡ q
+    → words (take 0 xs ++ (ys ++ drop q (drop 0 xs))) ≡ words ys ++ drop n (words xs)
+front-back n q xs ys e len = words-back 0 n 0 q xs ys refl e (omega arith) len
+
 -- ---- every byte
 
 -- The words of a list of bytes are words.

@@ -30,7 +30,6 @@ module _ (N k g L W A : ℕ) (ok : Chargeable N k g L W A) where
   pub rounding-le : (1 + W) * precision g L ≤ 4097 * 2 ^ 31
   rounding-le = let h : 1 + W ≤ 4097 = omega (arith, ok .weight) in mul-le-mul h (precision-le g L)
 
-  -- Sixteen of them are below 2^64.
   pub charge-le : charge N k g L W A ≤ 5 * 2 ^ 57 + 4097 * 2 ^ 31
   unfolding charge
   charge-le = omega (arith, noise-le, rounding-le)

@@ -12,6 +12,10 @@ use Rattle.torus.specs.Word.{add, sub, mul, distance}
 use Rattle.gadget.specs.Digits.{step}
 use Rattle.trlwe.specs.Sample.{part, phase, encryption}
 
+-- The words of a block.
+abbrev pub blockSize : (N k L : ℕ) → ℕ
+blockSize N k L = suc k * L * (suc k * N)
+
 -- Row r of a block: a sample.
 abbrev pub row : (N k r : ℕ) (block : List ℕ) → List ℕ
 row N k r block = chunk (suc k * N) r block

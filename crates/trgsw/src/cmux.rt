@@ -10,13 +10,14 @@ ghost use Rattle.torus.specs.Bytes.{words};
 ghost use Rattle.gadget.specs.Digits.{Lawful};
 ghost use Rattle.ring.specs.Polynomial.{Degree};
 ghost use Rattle.answers.specs.Answers.{number};
+ghost use Rattle.trgsw.specs.Block as Block;
 ghost use Rattle.trgsw.specs.External as External;
 ghost use Rattle.trgsw.specs.Calls as Calls;
 
 // sample0 in out gives way to the CMux, and sample1 in x to the difference of the two.
 pub fn cmux_in_place(out: &mut [u8], x: &mut [u8], block: &[u8], k: usize, n: usize, g: u32, l: u32)
     requires { ⌜ Degree n × Lawful g l × (length (now out) ≡ 4 * (suc k * n)) × (length (now x) ≡ 4 * (suc k * n))
-        × (length (now block) ≡ 4 * (suc k * l * (suc k * n))) ⌝ }
+        × (length (now block) ≡ 4 * Block.blockSize n k l) ⌝ }
     ensures { λ _. ⌜ (words (now (out .exit)) ≡ External.cmuxSample n k g l
         (words (now (block .entry))) (words (now (out .entry))) (words (now (x .entry))))
         × (words (now (x .exit)) ≡ External.difference (suc k * n) (words (now (x .entry))) (words (now (out .entry)))) ⌝ }
@@ -38,7 +39,7 @@ fn cmux_in(
     l: u32,
 )
     requires { ⌜ Degree n × Lawful g l × (length (now out) ≡ 4 * (suc k * n)) × (length (now room) ≡ 4 * (suc k * n))
-        × (length (now block) ≡ 4 * (suc k * l * (suc k * n))) × (length (now sample0) ≡ 4 * (suc k * n))
+        × (length (now block) ≡ 4 * Block.blockSize n k l) × (length (now sample0) ≡ 4 * (suc k * n))
         × (length (now sample1) ≡ 4 * (suc k * n)) ⌝ }
     ensures { λ _. ⌜ words (now (out .exit)) ≡ External.cmuxSample n k g l
         (words (now (block .entry))) (words (now (sample0 .entry))) (words (now (sample1 .entry))) ⌝ }

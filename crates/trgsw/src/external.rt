@@ -47,7 +47,7 @@ fn add_term(
     r: usize,
 )
     requires { ⌜ Degree n × Lawful g l × (r < suc k * l) × (length (now out) ≡ 4 * (suc k * n)) × (length (now room) ≡ 4 * n)
-        × (length (now block) ≡ 4 * (suc k * l * (suc k * n))) × (length (now x) ≡ 4 * (suc k * n)) ⌝ }
+        × (length (now block) ≡ 4 * Block.blockSize n k l) × (length (now x) ≡ 4 * (suc k * n)) ⌝ }
     ensures { λ _. ⌜ words (now (out .exit)) ≡ joined (suc k) (λ c. addProduct n (chunk n c (words (now (out .entry))))
         (tabulate n (External.rowDigits n g l (words (now (x .entry))) r)) (chunk n c (Block.row n k r (words (now (block .entry)))))) ⌝ }
 {
@@ -71,7 +71,7 @@ fn add_external_in(
     l: u32,
 )
     requires { ⌜ Degree n × Lawful g l × (length (now out) ≡ 4 * (suc k * n)) × (length (now room) ≡ 4 * n)
-        × (length (now block) ≡ 4 * (suc k * l * (suc k * n))) × (length (now x) ≡ 4 * (suc k * n)) ⌝ }
+        × (length (now block) ≡ 4 * Block.blockSize n k l) × (length (now x) ≡ 4 * (suc k * n)) ⌝ }
     ensures { λ _. ⌜ words (now (out .exit)) ≡ polynomials n (suc k) (λ c i. W.add (part n (words (now (out .entry))) c i)
         (External.external n k g l (words (now (block .entry))) (words (now (x .entry))) c i)) ⌝ }
 {
@@ -86,7 +86,7 @@ fn add_external_in(
 // To out, the external product of the block with x.
 pub fn add_external(out: &mut [u8], block: &[u8], x: &[u8], k: usize, n: usize, g: u32, l: u32)
     requires { ⌜ Degree n × Lawful g l × (length (now out) ≡ 4 * (suc k * n))
-        × (length (now block) ≡ 4 * (suc k * l * (suc k * n))) × (length (now x) ≡ 4 * (suc k * n)) ⌝ }
+        × (length (now block) ≡ 4 * Block.blockSize n k l) × (length (now x) ≡ 4 * (suc k * n)) ⌝ }
     ensures { λ _. ⌜ words (now (out .exit)) ≡ polynomials n (suc k) (λ c i. W.add (part n (words (now (out .entry))) c i)
         (External.external n k g l (words (now (block .entry))) (words (now (x .entry))) c i)) ⌝ }
 {

@@ -70,7 +70,7 @@ fn encrypt(
     l: u32,
     m: u32,
 )
-    requires { ⌜ Key n k (now key) × Lawful g l × (m ≤ 1) × (length (now block) ≡ 4 * (suc k * l * (suc k * n)))
+    requires { ⌜ Key n k (now key) × Lawful g l × (m ≤ 1) × (length (now block) ≡ 4 * Block.blockSize n k l)
         × (length (now masks) ≡ 4 * (suc k * l * (k * n))) × (length (now errors) ≡ 4 * (suc k * l * n)) ⌝ }
     ensures { λ _. ⌜ words (now (block .exit)) ≡ Block.encryptedBlock n k g l m
         (words (now (key .entry))) (words (now (masks .entry))) (words (now (errors .entry))) ⌝ }

@@ -7,13 +7,6 @@
 #include <inttypes.h>
 #include <string.h>
 
-static const uint64_t half_turn = UINT64_C(0x80000000);
-
-static struct gadget gadget_of(struct numbers n)
-{
-    return (struct gadget){n.g, n.L};
-}
-
 /*
  * A job with these amplitudes and this sum of charges. All other words are 0, so that what is written is 0 too and the
  * bound goes by the numbers and the amplitudes alone.
@@ -22,7 +15,7 @@ static void test_sum(struct numbers n, const uint32_t *amplitudes, uint64_t sum)
 {
     static const uint32_t zero[24 * 1024];
     struct arguments a = {0};
-    int accepted = sum < half_turn / n.M;
+    int accepted = sum < limit_of(n);
     lawful(&a, &lookup, n, 1);
     memset(slice_of(&a, BLOCKS)->at, 0, slice_of(&a, BLOCKS)->length);
     memset(slice_of(&a, CLASSES)->at, 0, slice_of(&a, CLASSES)->length);
@@ -49,7 +42,7 @@ static void test_patterns(struct numbers n)
         uint64_t sum = 0;
         for (uint64_t i = 0; i < n.d; i++) {
             amplitudes[i] = amplitude_at(pattern, i, n.d);
-            sum += charge_of(gadget_of(n), n.N, amplitudes[i]);
+            sum += charge_of((struct gadget){n.g, n.L}, n.N, amplitudes[i]);
         }
         at("a lookup's bound, amplitudes of pattern %d", (int)pattern);
         test_sum(n, amplitudes, sum);
@@ -83,12 +76,10 @@ static void test_total(struct numbers n, uint64_t total, uint64_t sum)
 /* The greatest total of amplitudes that is accepted, and the next one. */
 static void test_step(struct numbers n)
 {
-    uint64_t limit = half_turn / n.M, rounding = n.d * charge_of(gadget_of(n), n.N, 0);
-    uint64_t unit = charge_of(gadget_of(n), n.N, 1) - charge_of(gadget_of(n), n.N, 0);
-    uint64_t total = rounding < limit ? (limit - 1 - rounding) / unit : 0;
+    uint64_t total = most_amplitudes(n), sum = n.d * rounding_of(n) + total * unit_of(n);
     at("the greatest amplitudes, M = %" PRIu64, n.M);
-    test_total(n, total, rounding + total * unit);
-    test_total(n, total + 1, rounding + (total + 1) * unit);
+    test_total(n, total, sum);
+    test_total(n, total + 1, sum + unit_of(n));
 }
 
 static void test_steps(struct gadget gadget)
@@ -115,12 +106,10 @@ static unsigned test_exact(struct gadget gadget, int64_t offset)
     for (n.N = 1; n.N <= 8; n.N *= 2)
         for (n.d = 1; n.d <= 10; n.d++)
             for (n.M = 2; n.M <= 65536; n.M *= 2) {
-                uint64_t sum = (uint64_t)((int64_t)(half_turn / n.M) + offset);
-                uint64_t rounding = n.d * charge_of(gadget, n.N, 0);
-                uint64_t unit = charge_of(gadget, n.N, 1) - charge_of(gadget, n.N, 0);
-                if (sum < rounding || (sum - rounding) % unit)
+                uint64_t sum = (uint64_t)((int64_t)limit_of(n) + offset), rounding = n.d * rounding_of(n);
+                if (sum < rounding || (sum - rounding) % unit_of(n))
                     continue;
-                test_total(n, (sum - rounding) / unit, sum);
+                test_total(n, (sum - rounding) / unit_of(n), sum);
                 found++;
             }
     return found;

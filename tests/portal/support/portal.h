@@ -211,6 +211,19 @@ void add_external(uint32_t *out, struct gadget gadget, size_t N, const uint32_t 
 
 enum { MAX_D = 10 };
 
+/* 2^31: the greatest magnitude. */
+extern const uint64_t half_turn;
+
+/* 2^31/M: a lookup's bound must be below it. */
+uint64_t limit_of(struct numbers n);
+
+/* What a selector of amplitude 0 is charged; and what every unit of an amplitude adds to that. */
+uint64_t rounding_of(struct numbers n);
+uint64_t unit_of(struct numbers n);
+
+/* The greatest sum of d amplitudes with which a lookup is accepted; 0 if there is none. */
+uint64_t most_amplitudes(struct numbers n);
+
 /* A lookup's job. Selector i has amplitude i and block i, entry h the s classes from h*s on. */
 struct job {
     struct gadget gadget;

@@ -3,6 +3,29 @@
 
 #include <stdlib.h>
 
+const uint64_t half_turn = UINT64_C(0x80000000);
+
+uint64_t limit_of(struct numbers n)
+{
+    return half_turn / n.M;
+}
+
+uint64_t rounding_of(struct numbers n)
+{
+    return charge_of((struct gadget){n.g, n.L}, n.N, 0);
+}
+
+uint64_t unit_of(struct numbers n)
+{
+    return charge_of((struct gadget){n.g, n.L}, n.N, 1) - rounding_of(n);
+}
+
+uint64_t most_amplitudes(struct numbers n)
+{
+    uint64_t rounding = n.d * rounding_of(n);
+    return rounding < limit_of(n) ? (limit_of(n) - 1 - rounding) / unit_of(n) : 0;
+}
+
 uint64_t charges_of(const struct job *job)
 {
     uint64_t sum = 0;

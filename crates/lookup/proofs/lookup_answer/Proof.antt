@@ -18,6 +18,7 @@ use Rattle.answers.proofs.Laws.{stopped, went-on, first-orElse, triple-orElse, 
 use Rattle.lookup.specs.Lookup.{charges}
 use Rattle.lookup.specs.Inner.{Selectors}
 use Rattle.lookup.specs.Calls as Calls
+use Rattle.lookup.proofs.Public.{public-selectors}
 use borrow.Author.Needs.{needs}
 use Rattle.lookup.proofs.lookup_answer.Statement.{statement}
 use Rattle.lookup.proofs.lookup_answer.Tie as tie
@@ -137,20 +138,8 @@ amplitudes-le c i l =
 selectors : (c : tie.After-parameters) → let s = start-4 (c .before .before) .args in Selectors (c .parameters .result) (s .d) (s .amplitudes .now)
 selectors c =
     let ok = lawful (c .before .before .before .before .before .before .before .before .before .before .before .before .before .before .before .before) in
-    let e = c .parameters .ensures in
-    record {
-      admissible = record {
-        degree = rw (e .1) (ok .0);
-        lawful = rw (e .2, e .3) (ok .1);
-        masks = omega (arith, e .0);
-        weight = omega (arith, e .4, ok .0 .most);
-        class-number = rw (e .5) (ok .2);
-        packed = omega (arith, e .1, e .6, ok .3);
-      };
-      depth = omega (arith, ok .4);
-      amplitudes-length = omega (arith, amplitudes-length (c .before .before .before .before .before .before .before .before .before));
-      small = amplitudes-le (c .before);
-    }
+    public-selectors _ _ _ _ _ _ _ _ (c .parameters .ensures) (ok .0) (ok .1) (ok .2) (ok .3) (ok .4)
+    (amplitudes-length (c .before .before .before .before .before .before .before .before .before)) (amplitudes-le (c .before))
 
 -- The bound: the charges with one mask and keys of up to N ones.
 bound : (c : tie.After-charges) → let s = start-4 (c .before .before .before) .args in

@@ -5,9 +5,9 @@ use mathlib.Core.List.{List, _++_}
 use Prim.Native.Nat.{ℕ, _-_, _*_}
 use lib.ListN.{length, take, drop, length-drop}
 use Rattle.torus.specs.Bytes.{words}
-use Rattle.torus.proofs.Parts.{length-words}
+use Rattle.torus.proofs.Parts.{length-words, front-back}
 use Rattle.trlwe.specs.Sample.{encryption}
-use Rattle.trlwe.proofs.Parts.{masks-back, masks-kept, body-back}
+use Rattle.trlwe.proofs.Parts.{masks-kept, body-back}
 use borrow.Author.Needs.{needs}
 use Rattle.trlwe.proofs.encrypt_zero.Statement.{statement}
 use Rattle.trlwe.proofs.encrypt_zero.Tie as tie
@@ -51,7 +51,7 @@ returns c =
     let sample : List ℕ = take 0 (s .sample .now) ++ (copied ++ drop (p - 0) (drop 0 (s .sample .now))) in
     let kept : length sample ≡ length (s .sample .now) = masks-kept (p - 0) (s .sample .now) copied (omega arith) (omega arith) in
     let masks : words sample ≡ words (s .a .now) ++ drop n (words (s .sample .now)) =
-    masks-back n (p - 0) (s .sample .now) copied (omega arith) (omega arith) ∙ ap (λ ws. ws ++ drop n (words (s .sample .now))) (c .before .before .before .before .before .before .copy-words .ensures) in
+    front-back n (p - 0) (s .sample .now) copied (omega arith) (omega arith) ∙ ap (λ ws. ws ++ drop n (words (s .sample .now))) (c .before .before .before .before .before .before .copy-words .ensures) in
     body-back (s .n) n p (length sample - p) sample (words (s .a .now)) _ masks
     (omega (arith, length-words (s .a .now))) (omega (arith, length-drop n (words (s .sample .now)), length-words (s .sample .now)))
     (omega arith) (omega arith) _ (omega arith) (omega arith)

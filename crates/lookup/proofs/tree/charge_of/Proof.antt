@@ -2,6 +2,7 @@
 use native.Mathlib.Omega.{arith}
 use mathlib.Core.Path.{ap, _∙_}
 use Rattle.trgsw.specs.External as External
+use Rattle.lookup.proofs.Charges.{chargeable}
 use borrow.Author.Needs.{needs}
 use Rattle.lookup.proofs.tree.charge_of.Statement.{statement}
 use Rattle.lookup.proofs.tree.charge_of.Tie as tie
@@ -15,14 +16,7 @@ cast-charge c = search needs
 charge-requires : tie.Need-charge-requires
 charge-requires c κs =
     let s = c .before .before in
-    let ok = s .pre .admissible in
-    record {
-      lawful = ok .lawful;
-      degree = ok .degree .most;
-      masks = ok .masks;
-      weight = ok .weight;
-      amplitude = rw (c .word-at .ensures) (s .pre .small (s .args .i) (omega arith));
-    }
+    rw (c .word-at .ensures) (chargeable (s .args .p) _ (s .args .amplitudes .now) (s .pre) (s .args .i) (omega arith))
 
 returns : tie.Need-returns
 returns c =

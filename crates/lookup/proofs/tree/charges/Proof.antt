@@ -1,7 +1,7 @@
 -- `lookup::tree::charges` meets its contract. The loop's invariant: the charges of the first i selectors are added up. Assumes
 -- nothing.
 use native.Mathlib.Omega.{arith}
-use mathlib.Core.Path.{_≡_, refl, sym, ap, _∙_}
+use mathlib.Core.Path.{_≡_, refl, ap, _∙_}
 use Prim.Native.Nat.{_+_, _-_, _≤_}
 use borrow.Author.Needs.{needs}
 use Rattle.torus.specs.Bytes.{words}
@@ -17,7 +17,10 @@ abbrev μ-loop : tie.MeasureT-loop
 μ-loop amplitudes p d sum₀ i₀ sum i = d - i
 
 loop-holds : tie.Need-loop-holds Inv-loop μ-loop
-loop-holds c = (omega arith, sym (charges-none _ _ _ _ _ _))
+loop-holds c =
+    let s = c .before in
+    let p = s .args .p in
+    (omega arith, omega (arith, charges-none (p .n) (p .k) (p .g) (p .l) (p .w) (words (s .args .amplitudes .now))))
 
 charge-of-requires : tie.Need-charge-of-requires Inv-loop μ-loop
 charge-of-requires c κs =

@@ -9,6 +9,7 @@ use lib.Seq.{length-take-le}
 use Rattle.torus.specs.Bytes.{words}
 use Rattle.torus.proofs.Parts.{words-lent}
 use Rattle.gadget.proofs.Bounds.{count-le}
+use Rattle.trgsw.specs.Block as Block
 use Rattle.trgsw.specs.External as External
 use Rattle.lookup.specs.declared.tree.Parameters.{Parameters}
 use Rattle.lookup.specs.Lookup as Lookup
@@ -17,13 +18,13 @@ use Rattle.lookup.proofs.tree.join.Statement.{statement}
 use Rattle.lookup.proofs.tree.join.Tie as tie
 
 -- The bytes of a block: as many samples as it has rows.
-block-bytes : (p : Parameters) (own : ℕ) → own ≡ 4 * (suc (p .k) * p .n) → (p .k + 1) * p .l * own ≡ 4 * Lookup.blockSize (p .n) (p .k) (p .l)
+block-bytes : (p : Parameters) (own : ℕ) → own ≡ 4 * (suc (p .k) * p .n) → (p .k + 1) * p .l * own ≡ 4 * Block.blockSize (p .n) (p .k) (p .l)
 block-bytes p own e = rw e (omega arith)
 
 -- Block i lies inside the blocks.
-block-inside : (p : Parameters) (i own blocks : ℕ) → own ≡ 4 * (suc (p .k) * p .n) → 4 * (suc i * Lookup.blockSize (p .n) (p .k) (p .l)) ≤ blocks
+block-inside : (p : Parameters) (i own blocks : ℕ) → own ≡ 4 * (suc (p .k) * p .n) → 4 * (suc i * Block.blockSize (p .n) (p .k) (p .l)) ≤ blocks
     → i * ((p .k + 1) * p .l * own) + (p .k + 1) * p .l * own ≤ blocks
-block-inside p i own blocks e inside = rw (block-bytes p own e) (omega (arith, suc-mul i (Lookup.blockSize (p .n) (p .k) (p .l))))
+block-inside p i own blocks e inside = rw (block-bytes p own e) (omega (arith, suc-mul i (Block.blockSize (p .n) (p .k) (p .l))))
 
 -- The length of a part.
 length-chunk-at : (p e : ℕ) (xs : List ℕ) → e ≤ length xs → length (take (e - p) (drop p xs)) ≡ e - p
@@ -114,7 +115,7 @@ returns c =
     let own = length (a .sample .now) in
     let size = (p .k + 1) * p .l * own in
     let at = a .i * size in
-    let B = Lookup.blockSize (p .n) (p .k) (p .l) in
+    let B = Block.blockSize (p .n) (p .k) (p .l) in
     let block : words (take (at + size - at) (drop at (a .blocks .now))) ≡ Lookup.selector (p .n) (p .k) (p .l) (a .i) (words (a .blocks .now)) =
     words-lent (a .i * B) B at (at + size - at) (a .blocks .now) (rw (block-bytes p own (s .pre .1)) (omega arith)) (omega (arith, block-bytes p own (s .pre .1))) in
     let kept : words (take (own - 0) (drop 0 (a .work .now))) ≡ take (suc (p .k) * p .n) (words (a .work .now)) =

@@ -1,11 +1,11 @@
 -- `lookup::tree::keep` meets its contract. Assumes nothing.
 use native.Mathlib.Omega.{arith}
-use mathlib.Core.Path.{refl, ap, _∙_}
+use mathlib.Core.Path.{ap, _∙_}
 use mathlib.Core.List.{List, _++_}
-use Prim.Native.Nat.{ℕ, _-_, _/_}
+use Prim.Native.Nat.{_-_, _/_}
 use lib.ListN.{length, drop}
 use Rattle.torus.specs.Bytes.{words}
-use Rattle.torus.proofs.Parts.{words-back}
+use Rattle.torus.proofs.Parts.{front-back}
 use borrow.Author.Needs.{needs}
 use Rattle.lookup.proofs.tree.keep.Statement.{statement}
 use Rattle.lookup.proofs.tree.keep.Tie as tie
@@ -30,8 +30,8 @@ returns c =
     let s = c .before .before .before .before .before .before in
     let own = length (s .args .sample .now) in
     let kept = c .before .before .copy-words in
-    words-back 0 (own / 4) 0 (own - 0) (s .args .work .now) (kept .last .0) refl (omega (arith, s .pre .0)) (omega arith) (omega arith)
-    ∙ ap (λ (l : List ℕ). l ++ drop (own / 4) (words (s .args .work .now))) (kept .ensures)
+    front-back (own / 4) (own - 0) (s .args .work .now) (kept .last .0) (omega (arith, s .pre .0)) (omega arith)
+    ∙ ap (λ (l : List _). l ++ drop (own / 4) (words (s .args .work .now))) (kept .ensures)
 
 pub keep-spec : {M : Type 1} → statement M
 keep-spec =

@@ -1,32 +1,26 @@
 -- `lookup::tree::write_entry` meets its contract. Assumes nothing.
 use native.Mathlib.Omega.{arith}
-use mathlib.Core.Path.{_≡_, refl, ap, _∙_}
-use mathlib.Core.List.{List}
+use mathlib.Core.Path.{_≡_, ap, sym, _∙_, subst}
 use Prim.Native.Nat.{ℕ, _+_, _-_, _*_, _<_}
 use lib.ListN.{getD, take, drop}
 use Rattle.torus.specs.Bytes.{words}
-use Rattle.torus.specs.Sum.{chunk}
-use Rattle.torus.proofs.Joined.{chunk-at}
-use Rattle.torus.proofs.Parts.{length-words, words-lent}
+use Rattle.torus.proofs.Parts.{words-lent}
 use Rattle.trlwe.specs.Classes.{message}
 use Rattle.trlwe.specs.Sample.{trivial}
-use Rattle.lookup.specs.declared.tree.Parameters.{Parameters}
-use Rattle.lookup.specs.Inner as Inner
+use Rattle.lookup.specs.Lookup.{entryClasses}
+use Rattle.lookup.proofs.PublicEntries.{class-below}
 use Rattle.lookup.proofs.Runs.{entry-inside}
 use borrow.Author.Needs.{needs}
 use Rattle.lookup.proofs.tree.write_entry.Statement.{statement}
 use Rattle.lookup.proofs.tree.write_entry.Tie as tie
 
--- What is lent of the table.
-lent : (t s p q : ℕ) (classes : List ℕ) → p ≡ t * (4 * s) → q ≡ 4 * s → words (take q (drop p classes)) ≡ chunk s t (words classes)
-lent t s p q classes e f = words-lent (t * s) s p q classes (omega arith) f
-
--- Its classes are below the limit.
-below : (r : Parameters) (t sample work blocks : ℕ) (classes part : List ℕ) → Inner.Run r 0 t sample work blocks classes
-    → part ≡ chunk (r .s) t (words classes) → (i : ℕ) → i < r .s → getD part i 0 < r .m
-below r t sample work blocks classes part run e i l =
-    rw (e, chunk-at (r .s) t (words classes) i l)
-    (run .below (t * r .s + i) (omega (arith, length-words classes, entry-inside r t sample work blocks classes run)))
+-- What is lent of the table: the classes of entry t.
+lent : (c : tie.After-write-trivial-arg2) → let a = c .before .before .before .before .before .args in let at = a .t * (4 * a .p .s) in
+    words (take (at + 4 * a .p .s - at) (drop at (a .classes .now))) ≡ entryClasses (a .p .s) (a .t) (words (a .classes .now))
+lent c =
+    let a = c .before .before .before .before .before .args in
+    let at = a .t * (4 * a .p .s) in
+    words-lent (a .t * a .p .s) (a .p .s) at (at + 4 * a .p .s - at) (a .classes .now) (omega arith) (omega arith)
 
 mul-size : tie.Need-mul-size
 mul-size c = search needs
@@ -55,15 +49,13 @@ part-write-trivial-end c =
 write-trivial-requires : tie.Need-write-trivial-requires
 write-trivial-requires c κs =
     let s = c .before .before .before .before .before in
-    let p = s .args .p in
-    let at = s .args .t * (4 * p .s) in
-    let inside = entry-inside p (s .args .t) _ _ _ (s .args .classes .now) (s .pre .1) in (
+    let p = s .args .p in (
       omega (arith, s .pre .1 .sample-length),
       s .pre .0 .class-number,
       s .pre .0 .packed,
-      omega (arith, inside),
-      below p (s .args .t) _ _ _ (s .args .classes .now) _ (s .pre .1)
-          (lent (s .args .t) (p .s) at (at + 4 * p .s - at) (s .args .classes .now) refl (omega arith)),
+      omega (arith, entry-inside p (s .args .t) _ _ _ (s .args .classes .now) (s .pre .1)),
+      subst (λ ws. (i : ℕ) → i < p .s → getD ws i 0 < p .m) (sym (lent c))
+          (λ i l. class-below (p .m) (p .s) (words (s .args .classes .now)) (s .pre .0 .class-number) (s .pre .1 .below) (s .args .t) i),
     )
 
 same-length : tie.Need-same-length
@@ -71,11 +63,8 @@ same-length c = search needs
 
 returns : tie.Need-returns
 returns c =
-    let s = c .before .before .before .before .before .before .before .before in
-    let p = s .args .p in
-    let at = s .args .t * (4 * p .s) in
-    c .before .before .write-trivial .ensures
-    ∙ ap (λ ws. trivial (p .n) (p .k) (message (p .m) (p .s) ws)) (lent (s .args .t) (p .s) at (at + 4 * p .s - at) (s .args .classes .now) refl (omega arith))
+    let p = c .before .before .before .before .before .before .before .before .args .p in
+    c .before .before .write-trivial .ensures ∙ ap (λ ws. trivial (p .n) (p .k) (message (p .m) (p .s) ws)) (lent (c .before .before .before))
 
 pub write-entry-spec : {M : Type 1} → statement M
 write-entry-spec =
