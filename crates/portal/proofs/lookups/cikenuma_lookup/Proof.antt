@@ -1,0 +1,27 @@
+-- `portal::lookups::cikenuma_lookup` meets its contract. Assumes nothing.
+use mathlib.Core.Path.{ap, _∙_}
+use Rattle.answers.specs.Answers.{number}
+use borrow.Author.Needs.{needs}
+use Rattle.portal.proofs.lookups.cikenuma_lookup.Statement.{statement}
+use Rattle.portal.proofs.lookups.cikenuma_lookup.Tie as tie
+
+lookup-requires : tie.Need-lookup-requires
+lookup-requires c κs = search needs
+
+number-requires : tie.Need-number-requires
+number-requires c κs = search needs
+
+same-length : tie.Need-same-length
+same-length c = search needs
+
+same-length-2 : tie.Need-same-length-2
+same-length-2 c = search needs
+
+returns : tie.Need-returns
+returns c =
+    let E = c .before .before .before .before .before .lookup .ensures in
+    (c .number .ensures ∙ ap number (E .0), E .1, E .2)
+
+pub cikenuma-lookup-spec : {M : Type 1} → statement M
+cikenuma-lookup-spec =
+    tie.close (tie.spec lookup-requires number-requires same-length same-length-2 returns)
