@@ -105,7 +105,7 @@ fn join(
 }
 
 // Run t of level d. A level keeps one sample at the front of work, and lends the rest to the level below; the number of that level
-// is also that of the selector which joins its runs.
+// is also that of the selector which joins its runs. Each run hands a ledger back: run 2t + 1 `odd`, run 2t `even`.
 fn tree(
     sample: &mut [u8],
     work: &mut [u8],
