@@ -12,7 +12,7 @@ ghost use Rattle.lookup.specs.Inner as Inner;
 ghost use Rattle.lookup.specs.Calls as Calls;
 
 // The number of entries: 2^d.
-fn entries(d: u64) -> u64
+pub fn entries(d: u64) -> u64
     requires { ⌜ d ≤ 10 ⌝ }
     ensures { λ r. ⌜ r ≡ 2 ^ d ⌝ }
 {

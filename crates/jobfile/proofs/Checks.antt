@@ -1,0 +1,114 @@
+-- What the checks of a file tell when they pass, and back.
+-- Assumes nothing.
+use mathlib.Core.Path.{_≡_, refl, ap, ap₂, sym, _∙_}
+use mathlib.Core.Bool.{cond, _&&_}
+use mathlib.Core.List.{List}
+use Prim.Native.Nat.{ℕ, _+_, _*_, _%_, _^_, _≤_}
+use native.Mathlib.Omega.{arith}
+use lib.Dec.{eqb, leb}
+use lib.ListN.{length, getD, drop}
+use borrow.Author.Tests.{leb-true, eqb-true, le-leb, eq-eqb}
+use Rattle.torus.specs.Bytes.{words}
+use Rattle.torus.proofs.Tests.{both, held}
+use Rattle.answers.specs.Checks as Check
+use Rattle.answers.proofs.Laws.{first-is, first-none, degree-held, degree-met, gadget-held, gadget-met, class-number-held, class-number-met, count-held, count-met, depth-held, depth-met, exact-held, exact-met}
+use Rattle.trgsw.specs.Block.{blockSize}
+use Rattle.jobfile.specs.Job.{Job, LawfulNumbers}
+use Rattle.jobfile.specs.Reader.{tablePart, readJob, beginning, numbers, fileSize, tableCount, sections, fileRefusal}
+
+-- Two checks that pass are one that passes.
+first-met : (a b : ℕ) → a ≡ 0 → b ≡ 0 → Check.first a b ≡ 0
+first-met a b ea eb = ap₂ Check.first ea eb
+
+-- The number of the first check that refuses, and of the second where the first passes.
+pub first-stopped : (a b r : ℕ) → r ≡ a → (r ≡ 0 → ⊥) → r ≡ Check.first a b
+first-stopped a b r e some = first-is a b r (λ z. absurd (some (e ∙ z))) (λ h. e)
+
+pub first-passed : (a b r : ℕ) → a ≡ 0 → r ≡ b → r ≡ Check.first a b
+first-passed a b r z e = first-is a b r (λ h. e) (λ h. absurd (omega arith))
+
+-- ---- the beginning
+
+pub record Begins (file : List ℕ) : Type 0 where
+  pub least : 28 ≤ length file
+  pub most : length file ≤ 65536
+  pub whole : length file % 4 ≡ 0
+  pub five : getD (words file) 0 0 ≡ 5
+
+pub beginning-held : (file : List ℕ) → beginning file ≡ 0 → Begins file
+beginning-held file e =
+    let a = both (leb 28 (length file)) _ (held _ 0 4 e .0) in
+    let b = both (leb (length file) 65536) _ (a .1) in
+    let c = both (eqb (length file % 4) 0) _ (b .1) in
+    record {
+      least = leb-true 28 _ (a .0);
+      most = leb-true _ 65536 (b .0);
+      whole = eqb-true _ 0 (c .0);
+      five = eqb-true _ 5 (c .1);
+    }
+
+pub beginning-met : (file : List ℕ) → Begins file → beginning file ≡ 0
+beginning-met file ok =
+    simp (le-leb 28 _ (ok .least), le-leb _ 65536 (ok .most), eq-eqb _ 0 (ok .whole), eq-eqb _ 5 (ok .five))
+
+-- ---- the numbers
+
+pub numbers-held : (N g L M s d : ℕ) → numbers N g L M s d ≡ 0 → LawfulNumbers N g L M s d
+numbers-held N g L M s d e =
+    let degree = first-none (Check.degree N) _ e in
+    let gadget = first-none (Check.gadget g L) _ (degree .1) in
+    let class-number = first-none (Check.classNumber M) _ (gadget .1) in
+    let sizes = first-none (Check.count N s) (Check.depth d) (class-number .1) in
+    record {
+      degree = degree-held N (degree .0);
+      gadget = gadget-held g L (gadget .0);
+      class-number = class-number-held M (class-number .0);
+      some = count-held N s (sizes .0) .0;
+      most = count-held N s (sizes .0) .1;
+      depth = depth-held d (sizes .1);
+    }
+
+pub numbers-met : (N g L M s d : ℕ) → LawfulNumbers N g L M s d → numbers N g L M s d ≡ 0
+numbers-met N g L M s d ok =
+    first-met _ _ (degree-met N (ok .degree)) (first-met _ _ (gadget-met g L (ok .gadget))
+    (first-met _ _ (class-number-met M (ok .class-number)) (first-met _ _ (count-met N s (ok .some) (ok .most)) (depth-met d (ok .depth)))))
+
+-- ---- the sections
+
+pub record Fits (N L s d : ℕ) (file : List ℕ) : Type 0 where
+  pub size : length file ≡ 4 * fileSize N L s d
+  pub count : getD (tablePart (blockSize N 1 L) d (drop 7 (words file))) 0 0 ≡ s * 2 ^ d
+
+pub sections-held : (N L s d : ℕ) (file : List ℕ) → sections N L s d file ≡ 0 → Fits N L s d file
+sections-held N L s d file e =
+    let p = first-none (Check.exact (length file) (fileSize N L s d)) _ e in
+    record { size = exact-held _ _ (p .0); count = eqb-true _ _ (held _ 0 4 (p .1) .0) }
+
+pub sections-met : (N L s d : ℕ) (file : List ℕ) → Fits N L s d file → sections N L s d file ≡ 0
+sections-met N L s d file ok =
+    let count : tableCount N L s d file ≡ 0 = simp (eq-eqb _ _ (ok .count)) in
+    first-met _ _ (exact-met _ _ (ok .size)) count
+
+-- ---- all of them
+
+pub record Passes (file : List ℕ) : Type 0 where
+  pub begins : Begins file
+  pub lawful : let j = readJob file in LawfulNumbers (j .N) (j .g) (j .L) (j .M) (j .s) (j .d)
+  pub fits : let j = readJob file in Fits (j .N) (j .L) (j .s) (j .d) file
+
+pub refusal-held : (file : List ℕ) → fileRefusal file ≡ 0 → Passes file
+unfolding fileRefusal
+refusal-held file e =
+    let begins = first-none (beginning file) _ e in
+    let rest = first-none _ _ (begins .1) in
+    record {
+      begins = beginning-held file (begins .0);
+      lawful = numbers-held _ _ _ _ _ _ (rest .0);
+      fits = sections-held _ _ _ _ file (rest .1);
+    }
+
+pub refusal-met : (file : List ℕ) → Passes file → fileRefusal file ≡ 0
+unfolding fileRefusal
+refusal-met file ok =
+    first-met _ _ (beginning-met file (ok .begins))
+    (first-met _ _ (numbers-met _ _ _ _ _ _ (ok .lawful)) (sections-met _ _ _ _ file (ok .fits)))

@@ -1,0 +1,5 @@
+pub mod Sections
+pub mod Checks
+pub mod Held
+pub mod Lent
+pub mod Texts

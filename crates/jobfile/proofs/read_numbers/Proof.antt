@@ -1,0 +1,46 @@
+-- `jobfile::read_numbers` meets its contract. Assumes nothing.
+use borrow.Author.Needs.{needs}
+use Rattle.jobfile.specs.Reader.{readJob}
+use Rattle.jobfile.proofs.read_numbers.Statement.{statement}
+use Rattle.jobfile.proofs.read_numbers.Tie as tie
+
+number-at-requires : tie.Need-number-at-requires
+number-at-requires c κs = search needs
+
+number-at-requires-2 : tie.Need-number-at-requires-2
+number-at-requires-2 c κs = search needs
+
+number-at-requires-3 : tie.Need-number-at-requires-3
+number-at-requires-3 c κs = search needs
+
+number-at-requires-4 : tie.Need-number-at-requires-4
+number-at-requires-4 c κs = search needs
+
+number-at-requires-5 : tie.Need-number-at-requires-5
+number-at-requires-5 c κs = search needs
+
+number-at-requires-6 : tie.Need-number-at-requires-6
+number-at-requires-6 c κs = search needs
+
+returns : tie.Need-returns
+unfolding readJob
+returns c = record {
+  n = c .before .before .before .before .before .number-at .ensures;
+  g = c .before .before .before .before .number-at2 .ensures;
+  l = c .before .before .before .number-at3 .ensures;
+  m = c .before .before .number-at4 .ensures;
+  s = c .before .number-at5 .ensures;
+  d = c .number-at6 .ensures;
+}
+
+pub read-numbers-spec : {M : Type 1} → statement M
+read-numbers-spec =
+    tie.close
+    (tie.spec
+    number-at-requires
+    number-at-requires-2
+    number-at-requires-3
+    number-at-requires-4
+    number-at-requires-5
+    number-at-requires-6
+    returns)

@@ -1,0 +1,59 @@
+-- `jobfile::refusal` meets its contract. Assumes nothing.
+use mathlib.Core.Path.{_≡_, sym, ap, _∙_}
+use borrow.Author.Needs.{needs}
+use Rattle.jobfile.specs.Reader.{readJob, beginning, numbers, sections, fileRefusal}
+use Rattle.jobfile.proofs.Checks.{Begins, beginning-held, first-stopped, first-passed}
+use Rattle.jobfile.proofs.refusal.Statement.{statement}
+use Rattle.jobfile.proofs.refusal.Tie as tie
+
+-- The beginning has passed.
+passed : (c : tie.Else1) → beginning (c .before .before .before .args .file .now) ≡ 0
+passed c = sym (c .before .beginning .ensures) ∙ c .if1 .left
+
+-- The numbers are those of the job.
+judged : (c : tie.After-check-numbers) → let j = readJob (c .before .before .before .before .before .args .file .now) in
+    c .check-numbers .result ≡ numbers (j .N) (j .g) (j .L) (j .M) (j .s) (j .d)
+judged c =
+    let h = c .before .read-numbers .ensures in
+    rw (c .check-numbers .ensures, h .n, h .g, h .l, h .m, h .s, h .d)
+
+beginning-requires : tie.Need-beginning-requires
+beginning-requires c κs = search needs
+
+returns : tie.Need-returns
+unfolding fileRefusal
+returns c = first-stopped _ _ _ (c .before .beginning .ensures) (c .if1 .taken)
+
+read-numbers-requires : tie.Need-read-numbers-requires
+read-numbers-requires c κs = beginning-held (c .before .before .before .args .file .now) (passed c) .least
+
+check-numbers-requires : tie.Need-check-numbers-requires
+check-numbers-requires c κs = search needs
+
+returns-2 : tie.Need-returns-2
+unfolding fileRefusal
+returns-2 c =
+    first-passed _ _ _ (passed (c .before .before .before)) (first-stopped _ _ _ (judged (c .before)) (c .if2 .taken))
+
+check-sections-requires : tie.Need-check-sections-requires
+check-sections-requires c κs = search needs
+
+returns-3 : tie.Need-returns-3
+unfolding fileRefusal
+returns-3 c =
+    let h = c .before .before .before .read-numbers .ensures in
+    first-passed _ _ _ (passed (c .before .before .before .before))
+    (first-passed _ _ _ (sym (judged (c .before .before)) ∙ c .before .if2 .left)
+    (rw (c .check-sections .ensures, h .n, h .l, h .s, h .d)))
+
+pub refusal-spec : {M : Type 1} → statement M
+refusal-spec =
+    tie.close
+    (tie.spec
+    beginning-requires
+    returns
+    read-numbers-requires
+    check-numbers-requires
+    returns-2
+    check-sections-requires
+    returns-3)

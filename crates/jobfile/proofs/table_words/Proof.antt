@@ -1,0 +1,28 @@
+-- `jobfile::table_words` meets its contract. Assumes nothing.
+use native.Mathlib.Omega.{arith}
+use native.Mathlib.Nat.{mul-le-mul}
+use mathlib.Core.Path.{ap}
+use Prim.Native.Nat.{_*_, _^_, _≤_}
+use lib.Pow.{pow-mono}
+use borrow.Author.Needs.{needs}
+use Rattle.jobfile.proofs.table_words.Statement.{statement}
+use Rattle.jobfile.proofs.table_words.Tie as tie
+
+small : (c : tie.After-entries) → c .before .args .x .s * c .entries .result ≤ 1048576
+small c =
+    let d = c .before .args .x .d in
+    let most : 2 ^ d ≤ 2 ^ 10 = pow-mono {i = d} {j = 10} (c .before .pre .1) in
+    let few : c .entries .result ≤ 1024 = omega (arith, c .entries .ensures) in
+    mul-le-mul (c .before .pre .0) few
+
+entries-requires : tie.Need-entries-requires
+entries-requires c κs = search needs
+
+mul-result : tie.Need-mul-result
+mul-result c = omega (arith, small (c .before))
+
+returns : tie.Need-returns
+returns c = (ap (λ e. c .before .before .args .x .s * e) (c .before .entries .ensures), small (c .before))
+
+pub table-words-spec : {M : Type 1} → statement M
+table-words-spec = tie.close (tie.spec entries-requires mul-result returns)

@@ -1,0 +1,4 @@
+pub mod Job
+pub mod Reader
+pub mod Inner
+pub mod Output

@@ -1,0 +1,115 @@
+-- The job in a file, and what the program answers: the whole answer and the sample, for every byte string.
+-- Assumes nothing.
+use mathlib.Core.Path.{_≡_}
+use mathlib.Core.Bool.{cond, _&&_}
+use mathlib.Core.List.{List, []}
+use Prim.Native.Nat.{ℕ, _+_, _*_, _%_, _^_}
+use lib.Dec.{eqb, leb}
+use lib.ListN.{length, getD, take, drop, replicate}
+use Rattle.torus.specs.Sum.{tabulate, joined, chunk}
+use Rattle.torus.specs.Bytes.{words, bytes}
+use Rattle.answers.specs.Checks as Check
+use Rattle.answers.specs.Answers.{_orElse_, after}
+use Rattle.answers.specs.declared.Answer.{Answer}
+use Rattle.trgsw.specs.Block.{blockSize}
+use Rattle.lookup.specs.Calls.{lookup, lookupSample}
+use Rattle.jobfile.specs.Job.{Job}
+use Rattle.jobfile.specs.declared.Outcome.{Outcome}
+
+-- Part i of section two, of what stands behind the count d: the amplitude of selector i, then its block of b words.
+abbrev pub selectorPart : (b i : ℕ) (ws : List ℕ) → List ℕ
+selectorPart b i ws = chunk (1 + b) i ws
+
+-- Section three: what stands behind the d parts of section two. It begins with its count.
+abbrev pub tablePart : (b d : ℕ) (ws : List ℕ) → List ℕ
+tablePart b d ws = drop (d * (1 + b)) ws
+
+-- The amplitudes, the blocks and the classes, of what stands behind the count d.
+abbrev pub readAmplitudes : (b d : ℕ) (ws : List ℕ) → List ℕ
+readAmplitudes b d ws = tabulate d (λ i. getD (selectorPart b i ws) 0 0)
+
+abbrev pub readBlocks : (b d : ℕ) (ws : List ℕ) → List ℕ
+readBlocks b d ws = joined d (λ i. drop 1 (selectorPart b i ws))
+
+abbrev pub readClasses : (b d : ℕ) (ws : List ℕ) → List ℕ
+readClasses b d ws = drop 1 (tablePart b d ws)
+
+-- The job in a file that begins as a job does: word 0 is the count 5, words 1 to 6 are the numbers.
+unfoldable pub readJob : (file : List ℕ) → Job
+readJob file =
+    let ws = words file in
+    let b = blockSize (getD ws 1 0) 1 (getD ws 3 0) in
+    let d = getD ws 6 0 in
+    record {
+      N = getD ws 1 0;
+      g = getD ws 2 0;
+      L = getD ws 3 0;
+      M = getD ws 4 0;
+      s = getD ws 5 0;
+      d = d;
+      blocks = readBlocks b d (drop 7 ws);
+      amplitudes = readAmplitudes b d (drop 7 ws);
+      classes = readClasses b d (drop 7 ws);
+    }
+
+-- ---- refusals
+
+-- "A file under 28 or over 65,536 bytes, of a length not divisible by four, or whose first word is not 5 answers 5 before anything else."
+abbrev pub beginning : (file : List ℕ) → ℕ
+beginning file =
+    cond (leb 28 (length file) && (leb (length file) 65536 && (eqb (length file % 4) 0 && eqb (getD (words file) 0 0) 5))) 0 5
+
+-- "Refusals 1 to 4 follow".
+abbrev pub numbers : (N g L M s d : ℕ) → ℕ
+numbers N g L M s d =
+    Check.first (Check.degree N) (Check.first (Check.gadget g L) (Check.first (Check.classNumber M)
+    (Check.first (Check.count N s) (Check.depth d))))
+
+-- The words of a file: a count and five numbers, a count and d selectors, a count and s·2^d classes.
+abbrev pub fileSize : (N L s d : ℕ) → ℕ
+fileSize N L s d = 6 + (1 + d * (1 + blockSize N 1 L)) + (1 + s * 2 ^ d)
+
+-- "then 5 for any other wrong length or section three count"
+abbrev pub tableCount : (N L s d : ℕ) (file : List ℕ) → ℕ
+tableCount N L s d file = cond (eqb (getD (tablePart (blockSize N 1 L) d (drop 7 (words file))) 0 0) (s * 2 ^ d)) 0 5
+
+abbrev pub sections : (N L s d : ℕ) (file : List ℕ) → ℕ
+sections N L s d file = Check.first (Check.exact (length file) (fileSize N L s d)) (tableCount N L s d file)
+
+-- What refuses a file before its lookup begins, or 0.
+unfoldable pub fileRefusal : (file : List ℕ) → ℕ
+fileRefusal file =
+    let j = readJob file in
+    Check.first (beginning file)
+    (Check.first (numbers (j .N) (j .g) (j .L) (j .M) (j .s) (j .d)) (sections (j .N) (j .L) (j .s) (j .d) file))
+
+-- ---- the answer and the sample
+
+-- A slice of n words 0, which a lookup is lent to write.
+abbrev pub room : (n : ℕ) → List ℕ
+room n = replicate (4 * n) 0
+
+-- What the lookup of a job answers, and what it leaves in the sample's slice.
+abbrev pub jobLookup : Job → Answer
+jobLookup j =
+    lookup (j .N) (j .g) (j .L) (j .M) (j .s) (j .d) (bytes (j .blocks)) (bytes (j .amplitudes)) (bytes (j .classes))
+    (room (2 * j .N)) (room (2 * j .N * (j .d + 1)))
+
+abbrev pub jobLookupSample : Job → List ℕ
+jobLookupSample j =
+    lookupSample (j .N) (j .g) (j .L) (j .M) (j .s) (j .d) (bytes (j .blocks)) (bytes (j .amplitudes)) (bytes (j .classes))
+    (room (2 * j .N)) (room (2 * j .N * (j .d + 1)))
+
+-- What a whole file is answered: "a job is the input of one lookup, lent directly or read from a job file".
+unfoldable pub jobAnswer : (file : List ℕ) → Answer
+jobAnswer file = fileRefusal file orElse jobLookup (readJob file)
+
+-- The bytes of the sample that is printed: none where the file is refused.
+unfoldable pub jobSample : (file : List ℕ) → List ℕ
+jobSample file = after (jobAnswer file) (jobLookupSample (readJob file)) []
+
+-- What the reader gives tells an answer and the bytes of a sample. What stands behind them in its room is free.
+pub record Tells (r : Outcome) (a : Answer) (bs : List ℕ) : Type 0 where
+  pub answer : r .answer ≡ a
+  pub size : r .size ≡ length bs
+  pub sample : take (r .size) (r .sample) ≡ bs

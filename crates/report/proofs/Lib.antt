@@ -1,0 +1,4 @@
+pub mod Pieces
+pub mod Decimal
+pub mod Lines
+pub mod Instance
