@@ -14,10 +14,10 @@ use Rattle.answers.proofs.Laws.{went-on}
 use Rattle.trgsw.specs.Block.{blockSize}
 use Rattle.jobfile.specs.Reader.{readBlocks, readAmplitudes, readClasses, readJob, fileRefusal, jobLookup, jobLookupSample, jobAnswer, jobSample, Tells}
 use Rattle.jobfile.specs.Inner.{Held, answer, sample}
-use Rattle.jobfile.specs.declared.Numbers.{Numbers}
+use Rattle.jobfile.specs.declared.checks.Numbers.{Numbers}
 use Rattle.jobfile.specs.declared.Outcome.{Outcome}
 use Rattle.jobfile.proofs.Sections.{back-all, drop-bytes}
-use Rattle.jobfile.proofs.Checks.{Passes, refusal-held}
+use Rattle.jobfile.proofs.Passed.{Passes, refusal-held}
 
 -- ---- the numbers
 

@@ -13,7 +13,7 @@ use Rattle.lookup.specs.Calls.{lookup, lookupSample}
 use Rattle.lookup.proofs.Accuracy.{lookup-length}
 use Rattle.jobfile.specs.Reader.{Tells, room}
 use Rattle.jobfile.specs.Inner as Inner
-use Rattle.jobfile.specs.declared.Numbers.{Numbers}
+use Rattle.jobfile.specs.declared.checks.Numbers.{Numbers}
 use Rattle.jobfile.specs.declared.Outcome.{Outcome}
 
 module _ (N g L M s d : ℕ) (blocks amplitudes classes sample sample' work work' : List ℕ)

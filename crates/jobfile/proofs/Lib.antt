@@ -1,5 +1,8 @@
 pub mod Sections
-pub mod Checks
+pub mod Passed
 pub mod Held
 pub mod Lent
 pub mod Texts
+pub mod RoundTrip
+pub mod Accuracy
+pub mod Instance

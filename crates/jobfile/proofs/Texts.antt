@@ -19,7 +19,7 @@ use Rattle.jobfile.specs.Reader.{beginning, fileRefusal, readJob, jobLoo
 use Rattle.jobfile.specs.Output.{output, Shows, Continues}
 use Rattle.jobfile.specs.declared.Outcome.{Outcome}
 use Rattle.jobfile.specs.declared.text.Text.{Text}
-use Rattle.jobfile.proofs.Checks.{refusal-held}
+use Rattle.jobfile.proofs.Passed.{refusal-held}
 
 -- By cases of a number.
 none-or-some : {P : Type 0} (n : ℕ) → (n ≡ 0 → P) → ((n ≡ 0 → ⊥) → P) → P

@@ -8,7 +8,7 @@ use Rattle.answers.specs.declared.Answer.{Answer}
 use Rattle.lookup.specs.Calls.{lookup, lookupSample}
 use Rattle.jobfile.specs.Job.{Job}
 use Rattle.jobfile.specs.Reader.{numbers, room}
-use Rattle.jobfile.specs.declared.Numbers.{Numbers}
+use Rattle.jobfile.specs.declared.checks.Numbers.{Numbers}
 
 -- The code's numbers are those of the job.
 pub record Held (x : Numbers) (j : Job) : Type 0 where

@@ -16,15 +16,19 @@ use Rattle.lookup.specs.Calls.{lookup, lookupSample}
 use Rattle.jobfile.specs.Job.{Job}
 use Rattle.jobfile.specs.declared.Outcome.{Outcome}
 
--- Part i of section two, of what stands behind the count d: the amplitude of selector i, then its block of b words.
+-- What stands behind the count d, which is word 6: d selectors, then section three.
+abbrev pub behind : (file : List ℕ) → List ℕ
+behind file = drop 7 (words file)
+
+-- Of it, part i of section two: the amplitude of selector i, then its block of b words.
 abbrev pub selectorPart : (b i : ℕ) (ws : List ℕ) → List ℕ
 selectorPart b i ws = chunk (1 + b) i ws
 
--- Section three: what stands behind the d parts of section two. It begins with its count.
+-- Section three: what stands behind the d parts. It begins with its count.
 abbrev pub tablePart : (b d : ℕ) (ws : List ℕ) → List ℕ
 tablePart b d ws = drop (d * (1 + b)) ws
 
--- The amplitudes, the blocks and the classes, of what stands behind the count d.
+-- The amplitudes, the blocks and the classes.
 abbrev pub readAmplitudes : (b d : ℕ) (ws : List ℕ) → List ℕ
 readAmplitudes b d ws = tabulate d (λ i. getD (selectorPart b i ws) 0 0)
 
@@ -47,9 +51,9 @@ readJob file =
       M = getD ws 4 0;
       s = getD ws 5 0;
       d = d;
-      blocks = readBlocks b d (drop 7 ws);
-      amplitudes = readAmplitudes b d (drop 7 ws);
-      classes = readClasses b d (drop 7 ws);
+      blocks = readBlocks b d (behind file);
+      amplitudes = readAmplitudes b d (behind file);
+      classes = readClasses b d (behind file);
     }
 
 -- ---- refusals
@@ -71,7 +75,7 @@ fileSize N L s d = 6 + (1 + d * (1 + blockSize N 1 L)) + (1 + s * 2 ^ d)
 
 -- "then 5 for any other wrong length or section three count"
 abbrev pub tableCount : (N L s d : ℕ) (file : List ℕ) → ℕ
-tableCount N L s d file = cond (eqb (getD (tablePart (blockSize N 1 L) d (drop 7 (words file))) 0 0) (s * 2 ^ d)) 0 5
+tableCount N L s d file = cond (eqb (getD (tablePart (blockSize N 1 L) d (behind file)) 0 0) (s * 2 ^ d)) 0 5
 
 abbrev pub sections : (N L s d : ℕ) (file : List ℕ) → ℕ
 sections N L s d file = Check.first (Check.exact (length file) (fileSize N L s d)) (tableCount N L s d file)

@@ -72,12 +72,16 @@ number-requires c κs = search needs
 returns : tie.Need-returns
 returns c =
     let u = c .before .before .before .before in
-    tells-refused _ _ _ _ _ _ (sample-length (u .before .before)) (work-length (u .before .before)) _ _ (u .lookup .ensures .0) (λ z. c .if1 .taken (c .before .number .ensures ∙ z))
+    let a = u .before .before .before .before .before .before .before .before .args in
+    tells-refused (a .x) (a .blocks .now) (a .amplitudes .now) (a .classes .now) _ _ (sample-length (u .before .before)) (work-length (u .before .before)) _ _
+    (u .lookup .ensures .0) (λ z. c .if1 .taken (c .before .number .ensures ∙ z))
 
 returns-2 : tie.Need-returns-2
 returns-2 c =
     let u = c .before .before .before .before in
-    tells-accepted _ _ _ _ _ _ (sample-length (u .before .before)) (work-length (u .before .before)) _ _ _ (u .lookup .ensures .0) (u .lookup .ensures .1) (sym (c .before .number .ensures) ∙ c .if1 .left)
+    let a = u .before .before .before .before .before .before .before .before .args in
+    tells-accepted (a .x) (a .blocks .now) (a .amplitudes .now) (a .classes .now) _ _ (sample-length (u .before .before)) (work-length (u .before .before)) _ _ _
+    (u .lookup .ensures .0) (u .lookup .ensures .1) (sym (c .before .number .ensures) ∙ c .if1 .left)
 
 pub evaluate-spec : {M : Type 1} → statement M
 evaluate-spec =

@@ -6,7 +6,7 @@ use Rattle.answers.specs.Answers.{number}
 use Rattle.answers.specs.declared.Answer.the-variants.{Refused}
 use Rattle.answers.proofs.Laws.{stopped, after-refused}
 use Rattle.jobfile.specs.Reader.{fileRefusal, jobAnswer, jobSample}
-use Rattle.jobfile.proofs.Checks.{refusal-held}
+use Rattle.jobfile.proofs.Passed.{refusal-held}
 use borrow.Author.Needs.{needs}
 use Rattle.jobfile.proofs.run.Statement.{statement}
 use Rattle.jobfile.proofs.run.Tie as tie

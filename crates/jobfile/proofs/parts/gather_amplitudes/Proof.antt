@@ -1,4 +1,4 @@
--- `jobfile::gather_amplitudes` meets its contract. The loop's invariant: the first i amplitudes are written. Assumes nothing.
+-- `jobfile::parts::gather_amplitudes` meets its contract. The loop's invariant: the first i amplitudes are written. Assumes nothing.
 use native.Mathlib.Omega.{arith}
 use mathlib.Core.Path.{_≡_, refl, ap, sym, _∙_}
 use Prim.Native.Nat.{ℕ, _+_, _*_, _-_, _≤_, _<_}
@@ -10,8 +10,8 @@ use Rattle.torus.proofs.Parts.{length-words}
 use Rattle.torus.proofs.Joined.{chunk-inside}
 use Rattle.jobfile.specs.Reader.{selectorPart}
 use Rattle.jobfile.proofs.Sections.{amplitude-at}
-use Rattle.jobfile.proofs.gather_amplitudes.Statement.{statement}
-use Rattle.jobfile.proofs.gather_amplitudes.Tie as tie
+use Rattle.jobfile.proofs.parts.gather_amplitudes.Statement.{statement}
+use Rattle.jobfile.proofs.parts.gather_amplitudes.Tie as tie
 
 abbrev Inv-loop : tie.InvT-loop
 Inv-loop amplitudes₀ rest d b i₀ amplitudes i =

@@ -1,10 +1,10 @@
--- `jobfile::refusal` meets its contract. Assumes nothing.
+-- `jobfile::checks::refusal` meets its contract. Assumes nothing.
 use mathlib.Core.Path.{_≡_, sym, ap, _∙_}
 use borrow.Author.Needs.{needs}
 use Rattle.jobfile.specs.Reader.{readJob, beginning, numbers, sections, fileRefusal}
-use Rattle.jobfile.proofs.Checks.{Begins, beginning-held, first-stopped, first-passed}
-use Rattle.jobfile.proofs.refusal.Statement.{statement}
-use Rattle.jobfile.proofs.refusal.Tie as tie
+use Rattle.jobfile.proofs.Passed.{Begins, beginning-held, first-stopped, first-passed}
+use Rattle.jobfile.proofs.checks.refusal.Statement.{statement}
+use Rattle.jobfile.proofs.checks.refusal.Tie as tie
 
 -- The beginning has passed.
 passed : (c : tie.Else1) → beginning (c .before .before .before .args .file .now) ≡ 0

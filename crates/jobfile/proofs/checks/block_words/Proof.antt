@@ -1,10 +1,10 @@
--- `jobfile::block_words` meets its contract. Assumes nothing.
+-- `jobfile::checks::block_words` meets its contract. Assumes nothing.
 use native.Mathlib.Omega.{arith}
 use native.Mathlib.Nat.{mul-le-mul}
 use Prim.Native.Nat.{_*_, _≤_}
 use borrow.Author.Needs.{needs}
-use Rattle.jobfile.proofs.block_words.Statement.{statement}
-use Rattle.jobfile.proofs.block_words.Tie as tie
+use Rattle.jobfile.proofs.checks.block_words.Statement.{statement}
+use Rattle.jobfile.proofs.checks.block_words.Tie as tie
 
 small : (s : tie.Start) → s .args .x .l * s .args .x .n ≤ 32768
 small s = mul-le-mul (s .pre .1) (s .pre .0)

@@ -1,10 +1,10 @@
--- `jobfile::beginning` meets its contract. Assumes nothing.
+-- `jobfile::checks::beginning` meets its contract. Assumes nothing.
 use native.Mathlib.Omega.{arith}
 use mathlib.Core.Path.{sym, _∙_}
 use borrow.Author.Needs.{needs}
 use borrow.Author.Tests.{le-leb, lt-leb, eq-eqb, ne-eqb}
-use Rattle.jobfile.proofs.beginning.Statement.{statement}
-use Rattle.jobfile.proofs.beginning.Tie as tie
+use Rattle.jobfile.proofs.checks.beginning.Statement.{statement}
+use Rattle.jobfile.proofs.checks.beginning.Tie as tie
 
 returns : tie.Need-returns
 returns c = simp (lt-leb _ _ (c .if1 .taken))

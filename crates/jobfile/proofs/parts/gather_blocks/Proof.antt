@@ -1,4 +1,4 @@
--- `jobfile::gather_blocks` meets its contract. The loop's invariant: the first i blocks are written. Assumes nothing.
+-- `jobfile::parts::gather_blocks` meets its contract. The loop's invariant: the first i blocks are written. Assumes nothing.
 use native.Mathlib.Omega.{arith}
 use mathlib.Core.Path.{_≡_, refl, ap, sym, _∙_}
 use mathlib.Core.List.{List}
@@ -10,8 +10,8 @@ use Rattle.torus.proofs.Parts.{length-words}
 use Rattle.torus.proofs.Joined.{Each, Written, written-none, written-more, written-all, chunk-inside}
 use Rattle.jobfile.specs.Reader.{selectorPart}
 use Rattle.jobfile.proofs.Sections.{block-lent, blocks-each}
-use Rattle.jobfile.proofs.gather_blocks.Statement.{statement}
-use Rattle.jobfile.proofs.gather_blocks.Tie as tie
+use Rattle.jobfile.proofs.parts.gather_blocks.Statement.{statement}
+use Rattle.jobfile.proofs.parts.gather_blocks.Tie as tie
 
 -- The block of selector i.
 abbrev block : (b : ℕ) (rest : List ℕ) (i : ℕ) → List ℕ

@@ -1,7 +1,7 @@
 -- What the checks of a file tell when they pass, and back.
 -- Assumes nothing.
 use mathlib.Core.Path.{_≡_, refl, ap, ap₂, sym, _∙_}
-use mathlib.Core.Bool.{cond, _&&_}
+use mathlib.Core.Bool.{Bool, true, false, cond, _&&_}
 use mathlib.Core.List.{List}
 use Prim.Native.Nat.{ℕ, _+_, _*_, _%_, _^_, _≤_}
 use native.Mathlib.Omega.{arith}
@@ -14,7 +14,7 @@ use Rattle.answers.specs.Checks as Check
 use Rattle.answers.proofs.Laws.{first-is, first-none, degree-held, degree-met, gadget-held, gadget-met, class-number-held, class-number-met, count-held, count-met, depth-held, depth-met, exact-held, exact-met}
 use Rattle.trgsw.specs.Block.{blockSize}
 use Rattle.jobfile.specs.Job.{Job, LawfulNumbers}
-use Rattle.jobfile.specs.Reader.{tablePart, readJob, beginning, numbers, fileSize, tableCount, sections, fileRefusal}
+use Rattle.jobfile.specs.Reader.{behind, tablePart, readJob, beginning, numbers, fileSize, tableCount, sections, fileRefusal}
 
 -- Two checks that pass are one that passes.
 first-met : (a b : ℕ) → a ≡ 0 → b ≡ 0 → Check.first a b ≡ 0
@@ -75,9 +75,15 @@ numbers-met N g L M s d ok =
 
 -- ---- the sections
 
+-- Two checks of one number.
+five-five : (s t : Bool) → (Check.first (cond s 0 5) (cond t 0 5) ≡ 0 → ⊥) → Check.first (cond s 0 5) (cond t 0 5) ≡ 5
+five-five true true some = absurd (some refl)
+five-five true false some = refl
+five-five false t some = refl
+
 pub record Fits (N L s d : ℕ) (file : List ℕ) : Type 0 where
   pub size : length file ≡ 4 * fileSize N L s d
-  pub count : getD (tablePart (blockSize N 1 L) d (drop 7 (words file))) 0 0 ≡ s * 2 ^ d
+  pub count : getD (tablePart (blockSize N 1 L) d (behind file)) 0 0 ≡ s * 2 ^ d
 
 pub sections-held : (N L s d : ℕ) (file : List ℕ) → sections N L s d file ≡ 0 → Fits N L s d file
 sections-held N L s d file e =
@@ -112,3 +118,17 @@ unfolding fileRefusal
 refusal-met file ok =
     first-met _ _ (beginning-met file (ok .begins))
     (first-met _ _ (numbers-met _ _ _ _ _ _ (ok .lawful)) (sections-met _ _ _ _ file (ok .fits)))
+
+-- Where the beginning and the numbers pass, and the sections do not, the number is 5.
+sections-five : (N L s d : ℕ) (file : List ℕ) → (sections N L s d file ≡ 0 → ⊥) → sections N L s d file ≡ 5
+sections-five N L s d file some =
+    five-five (eqb (length file) (4 * fileSize N L s d)) (eqb (getD (tablePart (blockSize N 1 L) d (behind file)) 0 0) (s * 2 ^ d)) some
+
+pub refused-sections : (file : List ℕ) → let j = readJob file in Begins file → LawfulNumbers (j .N) (j .g) (j .L) (j .M) (j .s) (j .d)
+    → (fileRefusal file ≡ 0 → ⊥) → fileRefusal file ≡ 5
+unfolding fileRefusal
+refused-sections file begins lawful some =
+    let b = beginning-met file begins in
+    let n = numbers-met _ _ _ _ _ _ lawful in
+    sym (first-passed _ _ _ b (first-passed _ _ _ n
+    (sym (sections-five _ _ _ _ file (λ e. some (first-met _ _ b (first-met _ _ n e)))))))

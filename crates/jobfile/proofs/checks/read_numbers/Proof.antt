@@ -1,8 +1,8 @@
--- `jobfile::read_numbers` meets its contract. Assumes nothing.
+-- `jobfile::checks::read_numbers` meets its contract. Assumes nothing.
 use borrow.Author.Needs.{needs}
 use Rattle.jobfile.specs.Reader.{readJob}
-use Rattle.jobfile.proofs.read_numbers.Statement.{statement}
-use Rattle.jobfile.proofs.read_numbers.Tie as tie
+use Rattle.jobfile.proofs.checks.read_numbers.Statement.{statement}
+use Rattle.jobfile.proofs.checks.read_numbers.Tie as tie
 
 number-at-requires : tie.Need-number-at-requires
 number-at-requires c κs = search needs

@@ -1,12 +1,12 @@
--- `jobfile::table_words` meets its contract. Assumes nothing.
+-- `jobfile::checks::table_words` meets its contract. Assumes nothing.
 use native.Mathlib.Omega.{arith}
 use native.Mathlib.Nat.{mul-le-mul}
 use mathlib.Core.Path.{ap}
 use Prim.Native.Nat.{_*_, _^_, _≤_}
 use lib.Pow.{pow-mono}
 use borrow.Author.Needs.{needs}
-use Rattle.jobfile.proofs.table_words.Statement.{statement}
-use Rattle.jobfile.proofs.table_words.Tie as tie
+use Rattle.jobfile.proofs.checks.table_words.Statement.{statement}
+use Rattle.jobfile.proofs.checks.table_words.Tie as tie
 
 small : (c : tie.After-entries) → c .before .args .x .s * c .entries .result ≤ 1048576
 small c =

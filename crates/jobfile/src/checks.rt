@@ -1,0 +1,118 @@
+// The checks that a file must pass before its lookup begins, and its numbers.
+ghost use mathlib.Core.Path.{_≡_};
+ghost use Prim.Native.Nat.{_+_, _*_, _^_, _≤_};
+ghost use lib.ListN.{length, getD};
+ghost use Rattle.torus.specs.Bytes.{words};
+ghost use Rattle.trgsw.specs.Block.{blockSize};
+ghost use Rattle.jobfile.specs.Reader as Reader;
+ghost use Rattle.jobfile.specs.Inner as Inner;
+
+// The numbers of a job, as its file has them.
+pub struct Numbers {
+    pub n: u64,
+    pub g: u64,
+    pub l: u64,
+    pub m: u64,
+    pub s: u64,
+    pub d: u64,
+}
+
+// Word i of the file.
+fn number_at(file: &[u8], i: usize) -> u64
+    requires { ⌜ 4 * i + 4 ≤ length (now file) ⌝ }
+    ensures { λ r. ⌜ r ≡ getD (words (now (file .entry))) i 0 ⌝ }
+{
+    torus::word_at(file, i) as u64
+}
+
+// 5, before anything else: the length and the first word.
+fn beginning(file: &[u8]) -> u32
+    ensures { λ r. ⌜ r ≡ Reader.beginning (now (file .entry)) ⌝ }
+{
+    if file.len() < 28 {
+        return 5;
+    }
+    if 65536 < file.len() {
+        return 5;
+    }
+    if file.len() % 4 != 0 {
+        return 5;
+    }
+    if torus::word_at(file, 0) != 5 {
+        return 5;
+    }
+    0
+}
+
+// Words 1 to 6.
+pub fn read_numbers(file: &[u8]) -> Numbers
+    requires { ⌜ 28 ≤ length (now file) ⌝ }
+    ensures { λ r. ⌜ Inner.Held r (Reader.readJob (now (file .entry))) ⌝ }
+{
+    let n = number_at(file, 1);
+    let g = number_at(file, 2);
+    let l = number_at(file, 3);
+    let m = number_at(file, 4);
+    let s = number_at(file, 5);
+    let d = number_at(file, 6);
+    Numbers { n, g, l, m, s, d }
+}
+
+// 1 to 4.
+fn check_numbers(x: Numbers) -> u32
+    ensures { λ r. ⌜ r ≡ Reader.numbers (x .n) (x .g) (x .l) (x .m) (x .s) (x .d) ⌝ }
+{
+    let sizes = answers::first(answers::count(x.n, x.s), answers::depth(x.d));
+    let classes = answers::first(answers::class_number(x.m), sizes);
+    let gadget = answers::first(answers::gadget(x.g, x.l), classes);
+    answers::first(answers::degree(x.n), gadget)
+}
+
+// The words of a block.
+pub fn block_words(x: Numbers) -> u64
+    requires { ⌜ (x .n ≤ 1024) × (x .l ≤ 32) ⌝ }
+    ensures { λ r. ⌜ (r ≡ blockSize (x .n) 1 (x .l)) × (r ≤ 131072) ⌝ }
+{
+    4 * x.l * x.n
+}
+
+// The number of classes in the table: s for each of 2^d entries.
+fn table_words(x: Numbers) -> u64
+    requires { ⌜ (x .s ≤ 1024) × (x .d ≤ 10) ⌝ }
+    ensures { λ r. ⌜ (r ≡ x .s * 2 ^ x .d) × (r ≤ 1048576) ⌝ }
+{
+    x.s * lookup::entries(x.d)
+}
+
+// 5, for any other length or count of section three.
+fn check_sections(file: &[u8], x: Numbers) -> u32
+    requires { ⌜ Inner.Lawful x ⌝ }
+    ensures { λ r. ⌜ r ≡ Reader.sections (x .n) (x .l) (x .s) (x .d) (now (file .entry)) ⌝ }
+{
+    let selectors = x.d * (1 + block_words(x));
+    let classes = table_words(x);
+    if file.len() as u64 != 4 * (8 + selectors + classes) {
+        return 5;
+    }
+    let count = number_at(file, 7 + selectors as usize);
+    if count != classes {
+        return 5;
+    }
+    0
+}
+
+// What refuses a file before its lookup begins, or 0.
+pub fn refusal(file: &[u8]) -> u32
+    ensures { λ r. ⌜ r ≡ Reader.fileRefusal (now (file .entry)) ⌝ }
+{
+    let begun = beginning(file);
+    if begun != 0 {
+        return begun;
+    }
+    let x = read_numbers(file);
+    let unlawful = check_numbers(x);
+    if unlawful != 0 {
+        return unlawful;
+    }
+    check_sections(file, x)
+}
