@@ -5,6 +5,7 @@ use mathlib.Core.Path.{_≡_, ap, _∙_}
 use mathlib.Core.List.{List}
 use Prim.Native.Nat.{ℕ, _*_, _≤_, _<_}
 use lib.ListN.{length, getD}
+use Rattle.torus.specs.Sum.{chunk}
 use Rattle.torus.specs.Word.{distance}
 use Rattle.torus.specs.Bytes.{AreBytes, words, bytes}
 use Rattle.torus.proofs.Parts.{words-bytes}
@@ -16,12 +17,13 @@ use Rattle.trgsw.specs.Block.{Holds}
 use Rattle.lookup.specs.Tree.{entryNumber}
 use Rattle.lookup.specs.Lookup.{selector, entryClasses, entryMessage}
 use Rattle.lookup.proofs.Accuracy.{accuracy}
+use Rattle.lookup.proofs.EndToEnd.{Made, encrypted-lookup}
 use Rattle.jobfile.specs.Job.{Job, jobFile, Whole, LawfulNumbers, WellFormed}
-use Rattle.jobfile.specs.Reader.{readJob, jobLookup, jobAnswer, jobSample}
+use Rattle.jobfile.specs.Reader.{readJob, jobLookup, jobLookupSample, jobAnswer, jobSample}
 use Rattle.jobfile.proofs.Passed.{Begins, refused-sections}
 use Rattle.jobfile.proofs.Held.{answer-lookup}
 use Rattle.jobfile.proofs.Texts.{accepted-lookup, accepted-sample}
-use Rattle.jobfile.proofs.RoundTrip.{read-made, made-passes, passes-well-formed, well-formed-passes, read-below}
+use Rattle.jobfile.proofs.RoundTrip.{read-made, made-passes, passes-well-formed, well-formed-passes, read-below, made-below}
 
 -- "nothing lawful is thrown out": a file made of a whole job with lawful numbers, which is not too large, is answered as the job is.
 pub made-answer : (j : Job) → Whole j → LawfulNumbers (j .N) (j .g) (j .L) (j .M) (j .s) (j .d) → length (jobFile j) ≤ 65536
@@ -72,3 +74,26 @@ file-accuracy file bits key out byte e k bit holds size =
     accuracy (j .N) (j .g) (j .L) (j .M) (j .s) (j .d) bits key (bytes (j .blocks)) (bytes (j .amplitudes)) (bytes (j .classes)) _ _ out
     (p .1) k bit (λ i l. rw (b, a) (holds i l)) size in
     rw (accepted-sample file e, answer-lookup file (p .0)) (rw c at rule)
+
+-- A job from encryption to decryption, by way of a file: a broker encrypts each selector's bit and makes a file of the blocks, no amplitude
+-- declared below the bound that the encryption reported, and of a table; if the file is accepted, decryption of the sample that is printed
+-- for it gives the classes of the entry that the encrypted bits name.
+pub encrypted-file : (j : Job) (bits : ℕ → ℕ) (masks errors room : ℕ → List ℕ) (key out : List ℕ) → Whole j
+    → number (jobAnswer (jobFile j)) ≡ 0
+    → Key (j .N) 1 key
+    → ((i : ℕ) → i < j .d
+    → Made (j .N) (j .g) (j .L) (bits i) key (masks i) (errors i) (room i) (chunk (16 * j .L * j .N) i (bytes (j .blocks))) (getD (j .amplitudes) i 0))
+    → length out ≡ 4 * j .s
+    → (number (decryptClasses (j .N) (j .M) (j .s) key (jobSample (jobFile j)) out) ≡ 0)
+    × (decryptClassesClasses (j .N) (j .M) (j .s) key (jobSample (jobFile j)) out
+    ≡ bytes (entryClasses (j .s) (entryNumber bits (j .d)) (j .classes)))
+encrypted-file j bits masks errors room key out whole e k made size =
+    let same : readJob (jobFile j) ≡ j = read-made j whole in
+    let sample : jobSample (jobFile j) ≡ jobLookupSample j = accepted-sample (jobFile j) e ∙ ap jobLookupSample same in
+    let accepted : number (jobLookup j) ≡ 0 = rw same at (accepted-lookup (jobFile j) e .1) in
+    let a : words (bytes (j .amplitudes)) ≡ j .amplitudes = words-bytes (j .amplitudes) (made-below j whole .1) in
+    let c : words (bytes (j .classes)) ≡ j .classes = words-bytes (j .classes) (made-below j whole .2) in
+    let rule =
+    encrypted-lookup (j .N) (j .g) (j .L) (j .M) (j .s) (j .d) bits masks errors room key (bytes (j .blocks)) (bytes (j .amplitudes))
+    (bytes (j .classes)) _ _ out accepted k (λ i l. rw a (made i l)) size in
+    rw sample (rw c at rule)

@@ -12,7 +12,7 @@ use Rattle.gadget.proofs.Bounds.{count-le}
 use Rattle.answers.specs.Answers.{after}
 use Rattle.answers.proofs.Laws.{went-on}
 use Rattle.trgsw.specs.Block.{blockSize}
-use Rattle.jobfile.specs.Reader.{readBlocks, readAmplitudes, readClasses, readJob, fileRefusal, jobLookup, jobLookupSample, jobAnswer, jobSample, Tells}
+use Rattle.jobfile.specs.Reader.{behind, readBlocks, readAmplitudes, readClasses, readJob, fileRefusal, jobLookup, jobLookupSample, jobAnswer, jobSample, Tells}
 use Rattle.jobfile.specs.Inner.{Held, answer, sample}
 use Rattle.jobfile.specs.declared.checks.Numbers.{Numbers}
 use Rattle.jobfile.specs.declared.Outcome.{Outcome}
@@ -42,44 +42,40 @@ module _ (file : List ℕ) (x : Numbers) (e : fileRefusal file ≡ 0) (h : Held 
 
 -- ---- the parts
 
--- What stands behind the count d, lent as bytes.
-pub rest-words : (file : List ℕ) → words (take (length file - 28) (drop 28 file)) ≡ drop 7 (words file)
-rest-words file = ap words (back-all 28 file) ∙ words-drop 7 file
-
--- The parts that the code's numbers tell are those of the job.
 module _ (file : List ℕ) (x : Numbers) (b : ℕ) (h : Held x (readJob file)) (e : b ≡ blockSize (x .n) 1 (x .l)) where
-  blocks-read : readBlocks b (x .d) (drop 7 (words file)) ≡ readJob file .blocks
-  unfolding readJob
-  blocks-read = rw (e, h .n, h .l, h .d)
+  -- What is read by the code's numbers is what is read by the job's.
+  held-read : (read : (b d : ℕ) (ws : List ℕ) → List ℕ)
+      → read b (x .d) (behind file) ≡ read (blockSize (readJob file .N) 1 (readJob file .L)) (readJob file .d) (behind file)
+  held-read read = rw (e, h .n, h .l, h .d)
 
-  amplitudes-read : readAmplitudes b (x .d) (drop 7 (words file)) ≡ readJob file .amplitudes
-  unfolding readJob
-  amplitudes-read = rw (e, h .n, h .l, h .d)
+  -- A slice of bytes whose words the code has read out of what stands behind the count d.
+  gathered : (read : (b d : ℕ) (ws : List ℕ) → List ℕ) (k : ℕ) (s : List ℕ) → length s ≡ 4 * k → AreBytes s
+      → words s ≡ read b (x .d) (words (take (length file - 28) (drop 28 file)))
+      → s ≡ bytes (read (blockSize (readJob file .N) 1 (readJob file .L)) (readJob file .d) (behind file))
+  gathered read k s size byte w =
+      sym (bytes-words k s size byte)
+      ∙ ap bytes (w ∙ ap (λ ws. read b (x .d) ws) (ap words (back-all 28 file) ∙ words-drop 7 file) ∙ held-read read)
 
-  classes-read : readClasses b (x .d) (drop 7 (words file)) ≡ readJob file .classes
-  unfolding readJob
-  classes-read = rw (e, h .n, h .l, h .d)
-
-  -- Slices of bytes whose words the code has brought together.
   pub blocks-bytes : (k : ℕ) (s : List ℕ) → length s ≡ 4 * k → AreBytes s
       → words s ≡ readBlocks b (x .d) (words (take (length file - 28) (drop 28 file))) → s ≡ bytes (readJob file .blocks)
-  blocks-bytes k s size byte w =
-      sym (bytes-words k s size byte) ∙ ap bytes (w ∙ ap (readBlocks b (x .d)) (rest-words file) ∙ blocks-read)
+  unfolding readJob
+  blocks-bytes = gathered readBlocks
 
   pub amplitudes-bytes : (k : ℕ) (s : List ℕ) → length s ≡ 4 * k → AreBytes s
       → words s ≡ readAmplitudes b (x .d) (words (take (length file - 28) (drop 28 file))) → s ≡ bytes (readJob file .amplitudes)
-  amplitudes-bytes k s size byte w =
-      sym (bytes-words k s size byte) ∙ ap bytes (w ∙ ap (readAmplitudes b (x .d)) (rest-words file) ∙ amplitudes-read)
+  unfolding readJob
+  amplitudes-bytes = gathered readAmplitudes
 
   -- The classes are lent as they stand in the file.
   pub classes-bytes : (n : ℕ) → length file ≡ 4 * (8 + x .d * (1 + b) + n) → AreBytes file
       → take (length file - (32 + 4 * (x .d * (1 + b)))) (drop (32 + 4 * (x .d * (1 + b))) file) ≡ bytes (readJob file .classes)
+  unfolding readJob
   classes-bytes n size byte =
       let at : 32 + 4 * (x .d * (1 + b)) ≡ 4 * (8 + x .d * (1 + b)) = omega arith in
-      let behind : 7 + x .d * (1 + b) + 1 ≡ 8 + x .d * (1 + b) = omega arith in
+      let one : 7 + x .d * (1 + b) + 1 ≡ 8 + x .d * (1 + b) = omega arith in
       back-all _ file ∙ ap (λ k. drop k file) at ∙ drop-bytes (8 + x .d * (1 + b)) n file byte size
-      ∙ ap bytes (ap (λ k. drop k (words file)) (sym behind) ∙ sym (drop-drop 1 (7 + x .d * (1 + b)) (words file))
-      ∙ ap (drop 1) (sym (drop-drop (x .d * (1 + b)) 7 (words file))) ∙ classes-read)
+      ∙ ap bytes (ap (λ k. drop k (words file)) (sym one) ∙ sym (drop-drop 1 (7 + x .d * (1 + b)) (words file))
+      ∙ ap (drop 1) (sym (drop-drop (x .d * (1 + b)) 7 (words file))) ∙ held-read readClasses)
 
 -- ---- the answer
 

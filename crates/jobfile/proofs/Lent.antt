@@ -14,7 +14,6 @@ use Rattle.lookup.proofs.Accuracy.{lookup-length}
 use Rattle.jobfile.specs.Reader.{Tells, room}
 use Rattle.jobfile.specs.Inner as Inner
 use Rattle.jobfile.specs.declared.checks.Numbers.{Numbers}
-use Rattle.jobfile.specs.declared.Outcome.{Outcome}
 
 module _ (N g L M s d : ℕ) (blocks amplitudes classes sample sample' work work' : List ℕ)
     (es : length sample ≡ length sample') (ew : length work ≡ length work') where

@@ -1,19 +1,19 @@
 -- What the checks of a file tell when they pass, and back.
 -- Assumes nothing.
-use mathlib.Core.Path.{_≡_, refl, ap, ap₂, sym, _∙_}
-use mathlib.Core.Bool.{Bool, true, false, cond, _&&_}
+use mathlib.Core.Path.{_≡_, refl, ap₂, sym, _∙_}
+use mathlib.Core.Bool.{Bool, true, false, cond}
 use mathlib.Core.List.{List}
-use Prim.Native.Nat.{ℕ, _+_, _*_, _%_, _^_, _≤_}
+use Prim.Native.Nat.{ℕ, _*_, _%_, _^_, _≤_}
 use native.Mathlib.Omega.{arith}
 use lib.Dec.{eqb, leb}
-use lib.ListN.{length, getD, drop}
+use lib.ListN.{length, getD}
 use borrow.Author.Tests.{leb-true, eqb-true, le-leb, eq-eqb}
 use Rattle.torus.specs.Bytes.{words}
 use Rattle.torus.proofs.Tests.{both, held}
 use Rattle.answers.specs.Checks as Check
 use Rattle.answers.proofs.Laws.{first-is, first-none, degree-held, degree-met, gadget-held, gadget-met, class-number-held, class-number-met, count-held, count-met, depth-held, depth-met, exact-held, exact-met}
 use Rattle.trgsw.specs.Block.{blockSize}
-use Rattle.jobfile.specs.Job.{Job, LawfulNumbers}
+use Rattle.jobfile.specs.Job.{LawfulNumbers}
 use Rattle.jobfile.specs.Reader.{behind, tablePart, readJob, beginning, numbers, fileSize, tableCount, sections, fileRefusal}
 
 -- Two checks that pass are one that passes.

@@ -3,23 +3,23 @@
 -- Assumes nothing.
 use mathlib.Core.Path.{_≡_, refl, ap, ap₂, sym, subst, _∙_}
 use mathlib.Core.List.{List, [], _∷_, _++_}
-use Prim.Native.Nat.{ℕ, zero, suc, _+_, _*_, _%_, _^_, _≤_, _<_}
+use Prim.Native.Nat.{ℕ, zero, suc, _+_, _*_, _^_, _≤_, _<_}
 use native.Mathlib.Nat.{le-of-eq}
 use native.Mathlib.Omega.{arith}
 use lib.Dec.{lit<}
-use lib.ListN.{length, getD, take, drop, length-append, length-drop, take-append-drop}
-use lib.Seq.{take-all, drop-at, drop-drop, drop-cons, getD-drop}
+use lib.ListN.{length, getD, drop, length-append, length-drop, take-append-drop}
+use lib.Seq.{take-all, drop-at, getD-drop}
 use Rattle.torus.specs.Sum.{tabulate, joined, chunk}
 use Rattle.torus.specs.Bytes.{AreBytes, words, bytes}
 use Rattle.torus.proofs.Lists.{length-tabulate, tabulate-at, tabulate-cong, tabulate-self, tabulate-below}
-use Rattle.torus.proofs.Parts.{length-words, length-bytes, words-bytes, words-word, bytes-words}
+use Rattle.torus.proofs.Parts.{length-words, length-bytes, words-bytes, words-word, bytes-words, bytes-are}
 use Rattle.torus.proofs.Joined.{Each, chunk-inside, length-chunk, chunk-joined, length-joined, joined-cong, chunk-below, joined-below}
 use Rattle.trgsw.specs.Block.{blockSize}
 use Rattle.lookup.specs.Lookup.{selector}
 use Rattle.jobfile.specs.Job.{Job, sectionThree, fileWords, jobFile, Whole, LawfulNumbers, WellFormed}
-use Rattle.jobfile.specs.Reader.{selectorPart, tablePart, readBlocks, readAmplitudes, readClasses, readJob, fileSize, fileRefusal}
+use Rattle.jobfile.specs.Reader.{behind, selectorPart, tablePart, readBlocks, readAmplitudes, readClasses, readJob, fileSize, fileRefusal}
 use Rattle.jobfile.proofs.Sections.{blocks-each, joined-chunks, chunk-append}
-use Rattle.jobfile.proofs.Passed.{Begins, Fits, Passes, refusal-held, refusal-met}
+use Rattle.jobfile.proofs.Passed.{Fits, Passes, refusal-held, refusal-met}
 
 -- The words of a block of the job, and the part of selector i in its file.
 abbrev size : Job → ℕ
@@ -109,22 +109,12 @@ module _ (j : Job) (ok : Whole j) where
 drop-below : (m k : ℕ) (l : List ℕ) → ((i : ℕ) → getD l i 0 < m) → (i : ℕ) → getD (drop k l) i 0 < m
 drop-below m k l h i = rw (getD-drop k l i 0) (h (k + i))
 
--- A list that has an element begins with it.
-front : (l : List ℕ) → 1 ≤ length l → getD l 0 0 ∷ drop 1 l ≡ l
-front [] h = absurd (omega arith)
-front (x ∷ l) h = refl
-
--- Seven of them.
-front-seven : (l : List ℕ) → 7 ≤ length l
-    → getD l 0 0 ∷ getD l 1 0 ∷ getD l 2 0 ∷ getD l 3 0 ∷ getD l 4 0 ∷ getD l 5 0 ∷ getD l 6 0 ∷ drop 7 l ≡ l
-front-seven (a ∷ b ∷ c ∷ d ∷ e ∷ f ∷ g ∷ l) h = refl
-front-seven [] h = absurd (omega arith)
-front-seven (a ∷ []) h = absurd (omega arith)
-front-seven (a ∷ b ∷ []) h = absurd (omega arith)
-front-seven (a ∷ b ∷ c ∷ []) h = absurd (omega arith)
-front-seven (a ∷ b ∷ c ∷ d ∷ []) h = absurd (omega arith)
-front-seven (a ∷ b ∷ c ∷ d ∷ e ∷ []) h = absurd (omega arith)
-front-seven (a ∷ b ∷ c ∷ d ∷ e ∷ f ∷ []) h = absurd (omega arith)
+-- A list is its first n elements, one by one, and the rest.
+front : (n : ℕ) (l : List ℕ) → n ≤ length l → tabulate n (λ i. getD l i 0) ++ drop n l ≡ l
+unfolding tabulate
+front zero l h = refl
+front (suc n) [] h = absurd (omega arith)
+front (suc n) (x ∷ l) h = ap (λ m. x ∷ m) (front n l (omega arith))
 
 -- What stands behind the count d, taken apart and put together: d selectors with blocks of b words, a count and n classes.
 module _ (b d n : ℕ) (ws : List ℕ) (whole : length ws ≡ d * (1 + b) + (1 + n)) where
@@ -144,14 +134,16 @@ module _ (b d n : ℕ) (ws : List ℕ) (whole : length ws ≡ d * (1 + b) + (1 +
   classes-length = length-drop 1 (tablePart b d ws) ∙ omega (arith, table-length)
 
   selector-again : (i : ℕ) → i < d → getD (readAmplitudes b d ws) i 0 ∷ chunk b i (readBlocks b d ws) ≡ selectorPart b i ws
+  unfolding tabulate
   selector-again i l =
-      ap₂ _∷_ (tabulate-at d _ i l) (chunk-joined d b _ each i l) ∙ front (selectorPart b i ws) (omega (arith, part-length i l))
+      ap₂ _∷_ (tabulate-at d _ i l) (chunk-joined d b _ each i l) ∙ front 1 (selectorPart b i ws) (omega (arith, part-length i l))
 
   -- What is read of a selector is its part of section two.
   rest-again : joined d (λ i. getD (readAmplitudes b d ws) i 0 ∷ chunk b i (readBlocks b d ws)) ++ (getD (tablePart b d ws) 0 0 ∷ readClasses b d ws) ≡ ws
+  unfolding tabulate
   rest-again =
       ap₂ _++_ (joined-cong d _ (λ i. selectorPart b i ws) selector-again ∙ joined-chunks d (1 + b) ws)
-      (front (tablePart b d ws) (omega (arith, table-length)))
+      (front 1 (tablePart b d ws) (omega (arith, table-length)))
       ∙ take-append-drop (d * (1 + b)) ws
 
 -- What is read of words is words.
@@ -181,33 +173,39 @@ read-below file byte =
     let below : (i : ℕ) → getD rest i 0 < 2 ^ 32 = drop-below (2 ^ 32) 7 (words file) (words-word file byte) in
     (blocks-below b d rest below, amplitudes-below b d rest below, classes-below b d rest below)
 
+-- So a whole job has words.
+pub made-below : (j : Job) → Whole j → ((i : ℕ) → getD (j .blocks) i 0 < 2 ^ 32)
+    × ((i : ℕ) → getD (j .amplitudes) i 0 < 2 ^ 32) × ((i : ℕ) → getD (j .classes) i 0 < 2 ^ 32)
+unfolding jobFile
+made-below j whole = rw (read-made j whole) at (read-below (jobFile j) (bytes-are (fileWords j)))
+
 module _ (file : List ℕ) (e : fileRefusal file ≡ 0) where
   ok : Passes file
   ok = refusal-held file e
 
-  behind : length (drop 7 (words file)) ≡ readJob file .d * (1 + size (readJob file)) + (1 + readJob file .s * 2 ^ readJob file .d)
-  behind = length-drop 7 (words file) ∙ omega (arith, length-words file, ok .fits .size)
+  behind-length : length (behind file) ≡ readJob file .d * (1 + size (readJob file)) + (1 + readJob file .s * 2 ^ readJob file .d)
+  behind-length = length-drop 7 (words file) ∙ omega (arith, length-words file, ok .fits .size)
 
   -- The amplitude and the block of selector i are those of its part of section two.
   pub selector-read : (i : ℕ) → i < readJob file .d
       → getD (readJob file .amplitudes) i 0 ∷ selector (readJob file .N) 1 (readJob file .L) i (readJob file .blocks)
-      ≡ selectorPart (size (readJob file)) i (drop 7 (words file))
+      ≡ selectorPart (size (readJob file)) i (behind file)
   unfolding readJob
-  selector-read i l = selector-again _ _ _ (drop 7 (words file)) behind i l
+  selector-read i l = selector-again _ _ _ (behind file) behind-length i l
 
   -- The file's words are those of the job that is read from it.
   words-again : fileWords (readJob file) ≡ words file
-  unfolding readJob
+  unfolding readJob tabulate
   words-again =
       let ws = words file in
       let j = readJob file in
       ap (λ c. 5 ∷ j .N ∷ j .g ∷ j .L ∷ j .M ∷ j .s ∷ j .d ∷ (joined (j .d) (made j) ++ (c ∷ j .classes))) (sym (ok .fits .count))
-      ∙ ap₂ (λ f r. f ∷ j .N ∷ j .g ∷ j .L ∷ j .M ∷ j .s ∷ j .d ∷ r) (sym (ok .begins .five)) (rest-again (size j) (j .d) (j .s * 2 ^ j .d) (drop 7 ws) behind)
-      ∙ front-seven ws (omega (arith, length-words file, ok .begins .least))
+      ∙ ap₂ (λ f r. f ∷ j .N ∷ j .g ∷ j .L ∷ j .M ∷ j .s ∷ j .d ∷ r) (sym (ok .begins .five)) (rest-again (size j) (j .d) (j .s * 2 ^ j .d) (behind file) behind-length)
+      ∙ front 7 ws (omega (arith, length-words file, ok .begins .least))
 
   read-blocks-length : length (readJob file .blocks) ≡ readJob file .d * size (readJob file)
   unfolding readJob
-  read-blocks-length = blocks-length _ _ _ (drop 7 (words file)) behind
+  read-blocks-length = blocks-length _ _ _ (behind file) behind-length
 
   read-amplitudes-length : length (readJob file .amplitudes) ≡ readJob file .d
   unfolding readJob
@@ -215,7 +213,7 @@ module _ (file : List ℕ) (e : fileRefusal file ≡ 0) where
 
   read-classes-length : length (readJob file .classes) ≡ readJob file .s * 2 ^ readJob file .d
   unfolding readJob
-  read-classes-length = classes-length _ _ _ (drop 7 (words file)) behind
+  read-classes-length = classes-length _ _ _ (behind file) behind-length
 
   -- What passes the checks is well-formed: it is made of the job that is read from it.
   pub passes-well-formed : AreBytes file → WellFormed file

@@ -2,14 +2,14 @@
 -- Assumes nothing.
 use mathlib.Core.Path.{_≡_, refl, ap, sym, _∙_}
 use mathlib.Core.List.{List, [], _∷_, _++_}
-use Prim.Native.Nat.{ℕ, zero, suc, _+_, _-_, _*_, _≤_, _<_}
+use Prim.Native.Nat.{ℕ, zero, suc, _+_, _-_, _*_, _≤_}
 use native.Mathlib.Nat.{zero-mul, suc-mul, le-of-eq}
 use native.Mathlib.Omega.{arith}
 use lib.ListN.{length, getD, take, drop, length-drop}
 use lib.Seq.{drop-drop, getD-drop, length-take-le, take-all, take-add, take-append-le, drop-append-le}
 use Rattle.torus.specs.Sum.{joined, chunk}
 use Rattle.torus.specs.Bytes.{AreBytes, words, bytes}
-use Rattle.torus.proofs.Joined.{Each, chunk-at, chunk-inside, length-chunk}
+use Rattle.torus.proofs.Joined.{Each, chunk-at, chunk-inside}
 use Rattle.torus.proofs.Parts.{words-lent, words-drop, bytes-words}
 use Rattle.jobfile.specs.Reader.{selectorPart, tablePart}
 

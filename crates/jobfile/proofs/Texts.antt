@@ -3,7 +3,7 @@
 use mathlib.Core.Path.{_≡_, refl, ap, sym, _∙_}
 use mathlib.Core.Bool.{Bool, true, false}
 use mathlib.Core.List.{List, [], _++_, append-nil}
-use Prim.Native.Nat.{ℕ, zero, suc, _+_, _*_, _/_, _≤_, _<_}
+use Prim.Native.Nat.{ℕ, zero, suc, _*_, _/_, _≤_, _<_}
 use native.Mathlib.Omega.{arith}
 use lib.ListN.{length, take, drop, length-take}
 use borrow.Author.Tests.{le-leb, lt-leb}
@@ -15,7 +15,7 @@ use Rattle.answers.proofs.Laws.{before, after-written, after-refused}
 use Rattle.lookup.proofs.Accuracy.{lookup-length}
 use Rattle.report.specs.Report.{report, answerLines}
 use Rattle.report.proofs.Lines.{report-refused}
-use Rattle.jobfile.specs.Reader.{beginning, fileRefusal, readJob, jobLookup, jobLookupSample, jobAnswer, jobSample, Tells}
+use Rattle.jobfile.specs.Reader.{fileRefusal, readJob, jobLookup, jobLookupSample, jobAnswer, jobSample, Tells}
 use Rattle.jobfile.specs.Output.{output, Shows, Continues}
 use Rattle.jobfile.specs.declared.Outcome.{Outcome}
 use Rattle.jobfile.specs.declared.text.Text.{Text}

@@ -1,9 +1,8 @@
 // The text that the program prints for a file.
 use answers::Answer;
 ghost use mathlib.Core.Path.{_≡_};
-ghost use mathlib.Core.Bool.{true, false};
-ghost use mathlib.Core.List.{List, [], _++_};
-ghost use Prim.Native.Nat.{ℕ, _/_, _*_, _≤_, _<_};
+ghost use mathlib.Core.List.{List, _++_};
+ghost use Prim.Native.Nat.{ℕ, _/_, _*_, _≤_};
 ghost use lib.ListN.{length, take, drop};
 ghost use Rattle.torus.specs.Bytes.{words};
 ghost use Rattle.report.specs.Report.{report};

@@ -13,7 +13,7 @@ use Rattle.answers.proofs.Laws.{exact-met}
 use Rattle.trgsw.specs.Block.{blockSize}
 use Rattle.jobfile.specs.Job.{LawfulNumbers}
 use Rattle.jobfile.specs.Reader.{behind, tablePart, fileSize}
-use Rattle.jobfile.proofs.Passed.{numbers-held, first-stopped, first-passed}
+use Rattle.jobfile.proofs.Passed.{numbers-held, first-passed}
 use Rattle.jobfile.proofs.Sections.{count-at}
 use Rattle.jobfile.proofs.checks.check_sections.Statement.{statement}
 use Rattle.jobfile.proofs.checks.check_sections.Tie as tie

@@ -1,7 +1,7 @@
 -- `jobfile::parts::gather_amplitudes` meets its contract. The loop's invariant: the first i amplitudes are written. Assumes nothing.
 use native.Mathlib.Omega.{arith}
-use mathlib.Core.Path.{_≡_, refl, ap, sym, _∙_}
-use Prim.Native.Nat.{ℕ, _+_, _*_, _-_, _≤_, _<_}
+use mathlib.Core.Path.{_≡_, refl, sym, _∙_}
+use Prim.Native.Nat.{_+_, _*_, _-_, _≤_, _<_}
 use lib.ListN.{length, getD}
 use borrow.Author.Needs.{needs}
 use Rattle.torus.specs.Bytes.{words}
