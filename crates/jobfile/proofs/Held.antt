@@ -7,7 +7,7 @@ use native.Mathlib.Omega.{arith}
 use lib.ListN.{length, take, drop}
 use lib.Seq.{drop-drop}
 use Rattle.torus.specs.Bytes.{AreBytes, words, bytes}
-use Rattle.torus.proofs.Parts.{words-drop, bytes-words}
+use Rattle.torus.proofs.Parts.{words-drop, back-all, bytes-words, drop-bytes}
 use Rattle.gadget.proofs.Bounds.{count-le}
 use Rattle.answers.specs.Answers.{after}
 use Rattle.answers.proofs.Laws.{went-on}
@@ -16,7 +16,6 @@ use Rattle.jobfile.specs.Reader.{behind, readBlocks, readAmplitudes, rea
 use Rattle.jobfile.specs.Inner.{Held, answer, sample}
 use Rattle.jobfile.specs.declared.checks.Numbers.{Numbers}
 use Rattle.jobfile.specs.declared.Outcome.{Outcome}
-use Rattle.jobfile.proofs.Sections.{back-all, drop-bytes}
 use Rattle.jobfile.proofs.Passed.{Passes, refusal-held}
 
 -- ---- the numbers

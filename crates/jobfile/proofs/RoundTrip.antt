@@ -1,24 +1,24 @@
 -- A file made of a whole job reads back as that job, and passes the checks if its numbers are lawful and it is not too large; and a file
 -- that passes the checks is made of the job that is read from it.
 -- Assumes nothing.
-use mathlib.Core.Path.{_≡_, refl, ap, ap₂, sym, subst, _∙_}
-use mathlib.Core.List.{List, [], _∷_, _++_}
-use Prim.Native.Nat.{ℕ, zero, suc, _+_, _*_, _^_, _≤_, _<_}
+use mathlib.Core.Path.{_≡_, ap, ap₂, sym, subst, _∙_}
+use mathlib.Core.List.{List, _∷_, _++_}
+use Prim.Native.Nat.{ℕ, _+_, _*_, _^_, _≤_, _<_}
 use native.Mathlib.Nat.{le-of-eq}
 use native.Mathlib.Omega.{arith}
 use lib.Dec.{lit<}
 use lib.ListN.{length, getD, drop, length-append, length-drop, take-append-drop}
-use lib.Seq.{take-all, drop-at, getD-drop}
+use lib.Seq.{take-all, drop-at}
 use Rattle.torus.specs.Sum.{tabulate, joined, chunk}
 use Rattle.torus.specs.Bytes.{AreBytes, words, bytes}
-use Rattle.torus.proofs.Lists.{length-tabulate, tabulate-at, tabulate-cong, tabulate-self, tabulate-below}
+use Rattle.torus.proofs.Lists.{length-tabulate, tabulate-at, tabulate-cong, tabulate-self, tabulate-front, tabulate-below, drop-below}
 use Rattle.torus.proofs.Parts.{length-words, length-bytes, words-bytes, words-word, bytes-words, bytes-are}
-use Rattle.torus.proofs.Joined.{Each, chunk-inside, length-chunk, chunk-joined, length-joined, joined-cong, chunk-below, joined-below}
+use Rattle.torus.proofs.Joined.{Each, chunk-inside, length-chunk, chunk-joined, length-joined, joined-cong, chunk-below, chunk-append, joined-below, joined-chunks}
 use Rattle.trgsw.specs.Block.{blockSize}
 use Rattle.lookup.specs.Lookup.{selector}
 use Rattle.jobfile.specs.Job.{Job, sectionThree, fileWords, jobFile, Whole, LawfulNumbers, WellFormed}
 use Rattle.jobfile.specs.Reader.{behind, selectorPart, tablePart, readBlocks, readAmplitudes, readClasses, readJob, fileSize, fileRefusal}
-use Rattle.jobfile.proofs.Sections.{blocks-each, joined-chunks, chunk-append}
+use Rattle.jobfile.proofs.Sections.{blocks-each}
 use Rattle.jobfile.proofs.Passed.{Fits, Passes, refusal-held, refusal-met}
 
 -- The words of a block of the job, and the part of selector i in its file.
@@ -106,16 +106,6 @@ module _ (j : Job) (ok : Whole j) where
 
 -- ---- a file that passes the checks
 
-drop-below : (m k : ℕ) (l : List ℕ) → ((i : ℕ) → getD l i 0 < m) → (i : ℕ) → getD (drop k l) i 0 < m
-drop-below m k l h i = rw (getD-drop k l i 0) (h (k + i))
-
--- A list is its first n elements, one by one, and the rest.
-front : (n : ℕ) (l : List ℕ) → n ≤ length l → tabulate n (λ i. getD l i 0) ++ drop n l ≡ l
-unfolding tabulate
-front zero l h = refl
-front (suc n) [] h = absurd (omega arith)
-front (suc n) (x ∷ l) h = ap (λ m. x ∷ m) (front n l (omega arith))
-
 -- What stands behind the count d, taken apart and put together: d selectors with blocks of b words, a count and n classes.
 module _ (b d n : ℕ) (ws : List ℕ) (whole : length ws ≡ d * (1 + b) + (1 + n)) where
   part-length : (i : ℕ) → i < d → length (selectorPart b i ws) ≡ 1 + b
@@ -136,14 +126,14 @@ module _ (b d n : ℕ) (ws : List ℕ) (whole : length ws ≡ d * (1 + b) + (1 +
   selector-again : (i : ℕ) → i < d → getD (readAmplitudes b d ws) i 0 ∷ chunk b i (readBlocks b d ws) ≡ selectorPart b i ws
   unfolding tabulate
   selector-again i l =
-      ap₂ _∷_ (tabulate-at d _ i l) (chunk-joined d b _ each i l) ∙ front 1 (selectorPart b i ws) (omega (arith, part-length i l))
+      ap₂ _∷_ (tabulate-at d _ i l) (chunk-joined d b _ each i l) ∙ tabulate-front 1 (selectorPart b i ws) (omega (arith, part-length i l))
 
   -- What is read of a selector is its part of section two.
   rest-again : joined d (λ i. getD (readAmplitudes b d ws) i 0 ∷ chunk b i (readBlocks b d ws)) ++ (getD (tablePart b d ws) 0 0 ∷ readClasses b d ws) ≡ ws
   unfolding tabulate
   rest-again =
       ap₂ _++_ (joined-cong d _ (λ i. selectorPart b i ws) selector-again ∙ joined-chunks d (1 + b) ws)
-      (front 1 (tablePart b d ws) (omega (arith, table-length)))
+      (tabulate-front 1 (tablePart b d ws) (omega (arith, table-length)))
       ∙ take-append-drop (d * (1 + b)) ws
 
 -- What is read of words is words.
@@ -201,7 +191,7 @@ module _ (file : List ℕ) (e : fileRefusal file ≡ 0) where
       let j = readJob file in
       ap (λ c. 5 ∷ j .N ∷ j .g ∷ j .L ∷ j .M ∷ j .s ∷ j .d ∷ (joined (j .d) (made j) ++ (c ∷ j .classes))) (sym (ok .fits .count))
       ∙ ap₂ (λ f r. f ∷ j .N ∷ j .g ∷ j .L ∷ j .M ∷ j .s ∷ j .d ∷ r) (sym (ok .begins .five)) (rest-again (size j) (j .d) (j .s * 2 ^ j .d) (behind file) behind-length)
-      ∙ front 7 ws (omega (arith, length-words file, ok .begins .least))
+      ∙ tabulate-front 7 ws (omega (arith, length-words file, ok .begins .least))
 
   read-blocks-length : length (readJob file .blocks) ≡ readJob file .d * size (readJob file)
   unfolding readJob

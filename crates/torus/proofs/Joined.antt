@@ -8,7 +8,7 @@ use native.Mathlib.Nat.{zero-mul, suc-mul, mul-le-mul-right, eq-or-lt-of-le, le-
 use native.Mathlib.Numerals.{add-one}
 use native.Mathlib.Omega.{arith}
 use lib.ListN.{length, getD, take, drop, length-append, length-take, length-drop, drop-of-length-le, List·getD-append}
-use lib.Seq.{ext-getD, getD-append-add, take-at, drop-at, drop-drop, getD-take, getD-drop, length-take-le}
+use lib.Seq.{ext-getD, getD-append-add, take-at, drop-at, drop-drop, getD-take, getD-drop, length-take-le, take-add, take-append-le, drop-append-le}
 use Rattle.torus.specs.Sum.{joined, chunk}
 use Rattle.torus.specs.Bytes.{words}
 use Rattle.torus.proofs.Lists.{append-below, all-below}
@@ -30,6 +30,12 @@ pub chunk-below : (m n c : ℕ) (l : List ℕ) → 0 < m → ((i : ℕ) → getD
 chunk-below m n c l some below =
     all-below m (chunk n c l) some
     (λ i h. let inside : i < n = omega (arith, length-take n (drop (c * n) l)) in rw (chunk-at n c l i inside) (below (c * n + i)))
+
+-- A part that lies in the first of two lists.
+pub chunk-append : (m c : ℕ) (l r : List ℕ) → c * m + m ≤ length l → chunk m c (l ++ r) ≡ chunk m c l
+chunk-append m c l r h =
+    let room : m ≤ length (drop (c * m) l) = omega (arith, length-drop (c * m) l) in
+    ap (take m) (drop-append-le (c * m) l r (omega arith)) ∙ take-append-le m (drop (c * m) l) r room
 
 -- A part of the words, lent as bytes.
 pub words-chunk : (m c : ℕ) (s : List ℕ) → words (chunk (4 * m) c s) ≡ chunk m c (words s)
@@ -73,6 +79,13 @@ chunk-joined n m f each c l =
     length-chunk m c (joined n f) (omega (arith, chunk-inside c n m l, length-joined n m f each)) in
     ext-getD 0 _ _ (size ∙ sym (each c l))
     (λ i h. let li : i < m = omega arith in chunk-at m c (joined n f) i li ∙ joined-at n m f each c i l li)
+
+-- The first n parts of a list make up its front.
+pub joined-chunks : (n m : ℕ) (l : List ℕ) → joined n (λ c. chunk m c l) ≡ take (n * m) l
+unfolding joined
+joined-chunks zero m l = ap (λ k. take k l) (sym (zero-mul m))
+joined-chunks (suc n) m l =
+    ap (λ f. f ++ chunk m n l) (joined-chunks n m l) ∙ sym (take-add (n * m) m l) ∙ ap (λ k. take k l) (sym (suc-mul n m))
 
 pub joined-below : (m n : ℕ) (f : ℕ → List ℕ) → 0 < m → ((c i : ℕ) → getD (f c) i 0 < m) → (i : ℕ) → getD (joined n f) i 0 < m
 unfolding joined

@@ -8,8 +8,8 @@ use native.Mathlib.Nat.{le-refl, le-of-suc-le-suc, eq-or-lt-of-le}
 use native.Mathlib.Numerals.{add-one}
 use native.Mathlib.Decide.{decLt}
 use native.Mathlib.Omega.{arith}
-use lib.ListN.{length, getD, take, set, replicate, length-set, drop-of-length-le, List·getD-eq-default}
-use lib.Seq.{ext-getD, length-take-le, take-all, getD-take, set-split, getD-set-same, getD-set-other}
+use lib.ListN.{length, getD, take, drop, set, replicate, length-set, drop-of-length-le, List·getD-eq-default}
+use lib.Seq.{ext-getD, length-take-le, take-all, getD-take, getD-drop, set-split, getD-set-same, getD-set-other}
 use Rattle.torus.specs.Sum.{tabulate}
 
 pub length-tabulate : (n : ℕ) (f : ℕ → ℕ) → length (tabulate n f) ≡ n
@@ -36,6 +36,13 @@ tabulate-self zero (x ∷ l) e = absurd (omega arith)
 tabulate-self (suc n) [] e = absurd (omega arith)
 tabulate-self (suc n) (x ∷ l) e = ap (λ m. x ∷ m) (tabulate-self n l (omega arith))
 
+-- A list is its first n elements, one by one, and the rest.
+pub tabulate-front : (n : ℕ) (l : List ℕ) → n ≤ length l → tabulate n (λ i. getD l i 0) ++ drop n l ≡ l
+unfolding tabulate
+tabulate-front zero l h = refl
+tabulate-front (suc n) [] h = absurd (omega arith)
+tabulate-front (suc n) (x ∷ l) h = ap (λ m. x ∷ m) (tabulate-front n l (omega arith))
+
 pub tabulate-const : (n a : ℕ) → tabulate n (λ i. a) ≡ replicate n a
 unfolding tabulate
 tabulate-const zero a = refl
@@ -53,6 +60,9 @@ pub append-below : (m : ℕ) (s t : List ℕ) → ((i : ℕ) → getD s i 0 < m)
 append-below m [] t hs ht i = ht i
 append-below m (x ∷ s) t hs ht zero = hs 0
 append-below m (x ∷ s) t hs ht (suc i) = append-below m s t (λ j. hs (suc j)) ht i
+
+pub drop-below : (m k : ℕ) (l : List ℕ) → ((i : ℕ) → getD l i 0 < m) → (i : ℕ) → getD (drop k l) i 0 < m
+drop-below m k l h i = rw (getD-drop k l i 0) (h (k + i))
 
 -- What is read behind the end of a list is 0.
 pub all-below : (m : ℕ) (l : List ℕ) → 0 < m → ((i : ℕ) → i < length l → getD l i 0 < m) → (i : ℕ) → getD l i 0 < m

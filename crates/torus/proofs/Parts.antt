@@ -2,12 +2,12 @@
 -- Assumes nothing.
 use mathlib.Core.Path.{_≡_, refl, ap, ap₂, sym, _∙_}
 use mathlib.Core.List.{List, [], _∷_, _++_}
-use Prim.Native.Nat.{ℕ, zero, suc, _+_, _*_, _/_, _%_, _^_, _≤_, _<_}
-use native.Mathlib.Nat.{add-zero, mod-lt}
+use Prim.Native.Nat.{ℕ, zero, suc, _+_, _-_, _*_, _/_, _%_, _^_, _≤_, _<_}
+use native.Mathlib.Nat.{add-zero, mod-lt, le-of-eq}
 use native.Mathlib.Omega.{arith}
 use lib.Dec.{lit<}
-use lib.ListN.{length, getD, take, drop, set, replicate}
-use lib.Seq.{length-take-le}
+use lib.ListN.{length, getD, take, drop, set, replicate, length-drop}
+use lib.Seq.{length-take-le, take-all, getD-drop}
 use Rattle.torus.specs.Bytes.{AreBytes, word, words, bytes}
 
 -- 4 · i by steps of four, as `words` goes.
@@ -121,6 +121,14 @@ pub front-back : (n q : ℕ) (xs ys : List ℕ) → q ≡ 4 * n → length ys �
     → words (take 0 xs ++ (ys ++ drop q (drop 0 xs))) ≡ words ys ++ drop n (words xs)
 front-back n q xs ys e len = words-back 0 n 0 q xs ys refl e (omega arith) len
 
+-- A front that is lent as `&xs[0..q]` has q elements.
+pub front-length : (q : ℕ) (xs : List ℕ) → q ≤ length xs → length (take (q - 0) (drop 0 xs)) ≡ q
+front-length q xs h = length-take-le (q - 0) xs (omega arith) ∙ omega arith
+
+-- The rest of a slice, lent as `&xs[p..]`.
+pub back-all : (p : ℕ) (xs : List ℕ) → take (length xs - p) (drop p xs) ≡ drop p xs
+back-all p xs = take-all (length xs - p) (drop p xs) (le-of-eq (length-drop p xs))
+
 -- ---- every byte
 
 -- The words of a list of bytes are words.
@@ -160,6 +168,12 @@ bytes-words (suc k) (a ∷ b ∷ c ∷ d ∷ s) h f =
     let ec : word a b c d / 65536 % 256 ≡ c = rw qc (omega arith) in
     let ed : word a b c d / 16777216 % 256 ≡ d = rw qd (omega arith) in
     cc
+
+-- The bytes behind the first k words are those of the words behind them.
+pub drop-bytes : (k n : ℕ) (s : List ℕ) → AreBytes s → length s ≡ 4 * (k + n) → drop (4 * k) s ≡ bytes (drop k (words s))
+drop-bytes k n s byte size =
+    let rest : length (drop (4 * k) s) ≡ 4 * n = length-drop (4 * k) s ∙ omega arith in
+    sym (bytes-words n (drop (4 * k) s) rest (λ i. rw (getD-drop (4 * k) s i 0) (byte (4 * k + i)))) ∙ ap bytes (words-drop k s)
 
 pub length-bytes : (ws : List ℕ) → length (bytes ws) ≡ 4 * length ws
 unfolding bytes

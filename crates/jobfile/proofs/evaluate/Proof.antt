@@ -4,7 +4,7 @@ use native.Mathlib.Nat.{mul-le-mul}
 use mathlib.Core.Path.{_≡_, sym, _∙_}
 use Prim.Native.Nat.{_+_, _-_, _*_, _≤_}
 use lib.ListN.{length, take, drop}
-use Rattle.jobfile.proofs.Sections.{front-length}
+use Rattle.torus.proofs.Parts.{front-length}
 use Rattle.jobfile.proofs.Lent.{tells-refused, tells-accepted}
 use borrow.Author.Needs.{needs}
 use Rattle.jobfile.proofs.evaluate.Statement.{statement}

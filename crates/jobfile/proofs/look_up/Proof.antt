@@ -2,7 +2,7 @@
 use native.Mathlib.Omega.{arith}
 use mathlib.Core.Path.{ap, _∙_}
 use Prim.Native.Nat.{_*_, _≤_}
-use Rattle.jobfile.proofs.Sections.{front-length}
+use Rattle.torus.proofs.Parts.{front-length}
 use Rattle.jobfile.proofs.Held.{held-lawful, held-size}
 use borrow.Author.Needs.{needs}
 use Rattle.jobfile.proofs.look_up.Statement.{statement}

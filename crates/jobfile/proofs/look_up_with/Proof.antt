@@ -5,7 +5,7 @@ use mathlib.Core.List.{List}
 use Prim.Native.Nat.{ℕ, _+_, _-_, _*_, _≤_}
 use lib.ListN.{length, take, drop, length-drop}
 use Rattle.trgsw.specs.Block.{blockSize}
-use Rattle.jobfile.proofs.Sections.{back-all}
+use Rattle.torus.proofs.Parts.{back-all}
 use Rattle.jobfile.proofs.Held.{held-lawful, held-size, blocks-bytes, amplitudes-bytes, classes-bytes, told}
 use borrow.Author.Needs.{needs}
 use Rattle.jobfile.proofs.look_up_with.Statement.{statement}
