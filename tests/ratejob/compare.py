@@ -115,10 +115,18 @@ def compare_damaged(program, report):
     return count
 
 
+def lost_output(program):
+    """What is wrong with a run whose output can't be written, or None: it must end, and tell so on standard error."""
+    with open("/dev/full", "wb") as full:
+        run = subprocess.run([program], input=b"", stdout=full, stderr=subprocess.PIPE, timeout=LIMIT, check=False)
+    return None if run.returncode == 0 and run.stderr.endswith(b"could not be written\n") else "an output that is lost isn't told"
+
+
 def main():
     program, report = sys.argv[1], Report()
     vectors = compare_vectors(program, report)
     files = compare_damaged(program, report)
+    report.judge("/dev/full", lost_output(program))
     tried = f"ratejob: {vectors} vectors, {files} damaged and random files"
     if report.failures:
         sys.exit(f"{tried}: {report.failures} failures")

@@ -12,13 +12,15 @@ fn more_left() -> bool {
     0 < n
 }
 
-// Prints a text.
+// Prints a text. A program has no exit status of its own, so a text that is lost is told on standard error.
 fn print(text: Text)
     requires { ⌜ text .size ≤ length (text .bytes) ⌝ }
 {
     let size = text.size;
     let bytes = text.bytes;
-    io::write_all(1, &bytes[0..size]);
+    if !io::write_all(1, &bytes[0..size]) {
+        io::write_all(2, b"ratejob: the output could not be written\n");
+    }
 }
 
 // One more read tells an input of just as many bytes as the buffer has from a longer one.
