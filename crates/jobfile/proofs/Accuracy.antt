@@ -19,8 +19,8 @@ use Rattle.lookup.specs.Lookup.{selector, entryClasses, entryMessage}
 use Rattle.lookup.proofs.Accuracy.{accuracy}
 use Rattle.lookup.proofs.EndToEnd.{Made, encrypted-lookup}
 use Rattle.jobfile.specs.Job.{Job, jobFile, Whole, LawfulNumbers, WellFormed}
-use Rattle.jobfile.specs.Reader.{readJob, jobLookup, jobLookupSample, jobAnswer, jobSample}
-use Rattle.jobfile.proofs.Passed.{Begins, refused-sections}
+use Rattle.jobfile.specs.Reader.{Begins, readJob, jobLookup, jobLookupSample, jobAnswer, jobSample}
+use Rattle.jobfile.proofs.Passed.{refused-sections}
 use Rattle.jobfile.proofs.Held.{answer-lookup}
 use Rattle.jobfile.proofs.Texts.{accepted-lookup, accepted-sample}
 use Rattle.jobfile.proofs.RoundTrip.{read-made, made-passes, passes-well-formed, well-formed-passes, read-below, made-below}

@@ -83,7 +83,7 @@ pub answer-lookup : (file : List ℕ) → fileRefusal file ≡ 0 → jobAnswer f
 unfolding jobAnswer
 answer-lookup file e = went-on (fileRefusal file) _ e
 
-pub sample-lookup : (file : List ℕ) → fileRefusal file ≡ 0
+sample-lookup : (file : List ℕ) → fileRefusal file ≡ 0
     → jobSample file ≡ after (jobLookup (readJob file)) (jobLookupSample (readJob file)) []
 unfolding jobSample
 sample-lookup file e = ap (λ a. after a (jobLookupSample (readJob file)) []) (answer-lookup file e)

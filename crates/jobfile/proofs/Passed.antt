@@ -3,18 +3,17 @@
 use mathlib.Core.Path.{_≡_, refl, ap₂, sym, _∙_}
 use mathlib.Core.Bool.{Bool, true, false, cond}
 use mathlib.Core.List.{List}
-use Prim.Native.Nat.{ℕ, _*_, _%_, _^_, _≤_}
+use Prim.Native.Nat.{ℕ, _*_, _%_, _^_}
 use native.Mathlib.Omega.{arith}
 use lib.Dec.{eqb, leb}
 use lib.ListN.{length, getD}
 use borrow.Author.Tests.{leb-true, eqb-true, le-leb, eq-eqb}
-use Rattle.torus.specs.Bytes.{words}
 use Rattle.torus.proofs.Tests.{both, held}
 use Rattle.answers.specs.Checks as Check
 use Rattle.answers.proofs.Laws.{first-is, first-none, degree-held, degree-met, gadget-held, gadget-met, class-number-held, class-number-met, count-held, count-met, depth-held, depth-met, exact-held, exact-met}
 use Rattle.trgsw.specs.Block.{blockSize}
 use Rattle.jobfile.specs.Job.{LawfulNumbers}
-use Rattle.jobfile.specs.Reader.{behind, tablePart, readJob, beginning, numbers, fileSize, tableCount, sections, fileRefusal}
+use Rattle.jobfile.specs.Reader.{behind, tablePart, readJob, Begins, beginning, numbers, fileSize, tableCount, sections, fileRefusal}
 
 -- Two checks that pass are one that passes.
 first-met : (a b : ℕ) → a ≡ 0 → b ≡ 0 → Check.first a b ≡ 0
@@ -28,12 +27,6 @@ pub first-passed : (a b r : ℕ) → a ≡ 0 → r ≡ b → r ≡ Check.first a
 first-passed a b r z e = first-is a b r (λ h. e) (λ h. absurd (omega arith))
 
 -- ---- the beginning
-
-pub record Begins (file : List ℕ) : Type 0 where
-  pub least : 28 ≤ length file
-  pub most : length file ≤ 65536
-  pub whole : length file % 4 ≡ 0
-  pub five : getD (words file) 0 0 ≡ 5
 
 pub beginning-held : (file : List ℕ) → beginning file ≡ 0 → Begins file
 beginning-held file e =

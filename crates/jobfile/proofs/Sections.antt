@@ -16,13 +16,13 @@ pub amplitude-at : (b i : ℕ) (ws : List ℕ) → getD (selectorPart b i ws) 0 
 amplitude-at b i ws = chunk-at (1 + b) i ws 0 (omega arith) ∙ ap (λ k. getD ws k 0) (omega arith)
 
 -- Behind the first of a list's first words.
-pub drop-take : (b : ℕ) (l : List ℕ) → drop 1 (take (suc b) l) ≡ take b (drop 1 l)
+drop-take : (b : ℕ) (l : List ℕ) → drop 1 (take (suc b) l) ≡ take b (drop 1 l)
 drop-take zero [] = refl
 drop-take (suc b) [] = refl
 drop-take b (x ∷ l) = refl
 
 -- Its block is the rest of its part.
-pub block-at : (b i : ℕ) (ws : List ℕ) → drop 1 (selectorPart b i ws) ≡ take b (drop (i * (1 + b) + 1) ws)
+block-at : (b i : ℕ) (ws : List ℕ) → drop 1 (selectorPart b i ws) ≡ take b (drop (i * (1 + b) + 1) ws)
 block-at b i ws =
     let one : 1 + b ≡ suc b = omega arith in
     ap (λ m. drop 1 (take m (drop (i * (1 + b)) ws))) one

@@ -3,7 +3,7 @@
 use mathlib.Core.Path.{_≡_}
 use mathlib.Core.Bool.{cond, _&&_}
 use mathlib.Core.List.{List, []}
-use Prim.Native.Nat.{ℕ, _+_, _*_, _%_, _^_}
+use Prim.Native.Nat.{ℕ, _+_, _*_, _%_, _^_, _≤_}
 use lib.Dec.{eqb, leb}
 use lib.ListN.{length, getD, take, drop, replicate}
 use Rattle.torus.specs.Sum.{tabulate, joined, chunk}
@@ -62,6 +62,13 @@ readJob file =
 abbrev pub beginning : (file : List ℕ) → ℕ
 beginning file =
     cond (leb 28 (length file) && (leb (length file) 65536 && (eqb (length file % 4) 0 && eqb (getD (words file) 0 0) 5))) 0 5
+
+-- The same as a statement: the file begins as a job file does.
+pub record Begins (file : List ℕ) : Type 0 where
+  pub least : 28 ≤ length file
+  pub most : length file ≤ 65536
+  pub whole : length file % 4 ≡ 0
+  pub five : getD (words file) 0 0 ≡ 5
 
 -- "Refusals 1 to 4 follow".
 abbrev pub numbers : (N g L M s d : ℕ) → ℕ
