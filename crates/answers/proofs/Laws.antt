@@ -1,6 +1,6 @@
 -- Laws of the checks and of answers, for the calls that are made up of them.
 -- Assumes nothing.
-use mathlib.Core.Path.{_≡_, refl, ap, sym, _∙_}
+use mathlib.Core.Path.{_≡_, refl, ap, ap₂, sym, _∙_}
 use mathlib.Core.Bool.{Bool, true, false, cond, _&&_}
 use mathlib.Core.List.{List, [], _∷_}
 use Prim.Native.Nat.{ℕ, zero, suc, _+_, _*_, _/_, _^_, _≤_, _<_, max}
@@ -51,6 +51,17 @@ first-first (suc a) b c = refl
 pub first-none : (a b : ℕ) → first a b ≡ 0 → (a ≡ 0) × (b ≡ 0)
 first-none zero b e = (refl, e)
 first-none (suc a) b e = absurd (omega arith)
+
+-- Two checks that pass are one that passes.
+pub first-met : (a b : ℕ) → a ≡ 0 → b ≡ 0 → first a b ≡ 0
+first-met a b ea eb = ap₂ first ea eb
+
+-- The number of the first check that refuses, and of the second where the first passes.
+pub first-stopped : (a b r : ℕ) → r ≡ a → (r ≡ 0 → ⊥) → r ≡ first a b
+first-stopped a b r e some = first-is a b r (λ z. absurd (some (e ∙ z))) (λ h. e)
+
+pub first-passed : (a b r : ℕ) → a ≡ 0 → r ≡ b → r ≡ first a b
+first-passed a b r z e = first-is a b r (λ h. e) (λ h. absurd (omega arith))
 
 -- A check that refuses gives the answer.
 pub stopped : (a k : ℕ) (x : Answer) → k ≡ a → (k ≡ 0 → ⊥) → Refused k ≡ (a orElse x)

@@ -52,6 +52,11 @@ unfolding output report line numbers ascii decimal decimalUpTo jobSample jobAnsw
     lookup _orElse_ charges sum charge precision words bytes ones allBelow joined tabulate
 output-1024 = refl
 
+-- "A refusal prints only the answer and bound lines": the empty input.
+pub output-none : output [] ≡ ascii "answer 5\nbound 0\n"
+unfolding output report line numbers ascii decimal decimalUpTo jobSample jobAnswer fileRefusal readJob _orElse_ words
+output-none = refl
+
 -- ---- the accuracy rule
 
 accepted-J : number (jobAnswer (fileJ 7)) ≡ 0

@@ -1,30 +1,18 @@
 -- What the checks of a file tell when they pass, and back.
 -- Assumes nothing.
-use mathlib.Core.Path.{_≡_, refl, ap₂, sym, _∙_}
+use mathlib.Core.Path.{_≡_, refl, sym}
 use mathlib.Core.Bool.{Bool, true, false, cond}
 use mathlib.Core.List.{List}
 use Prim.Native.Nat.{ℕ, _*_, _%_, _^_}
-use native.Mathlib.Omega.{arith}
 use lib.Dec.{eqb, leb}
 use lib.ListN.{length, getD}
 use borrow.Author.Tests.{leb-true, eqb-true, le-leb, eq-eqb}
 use Rattle.torus.proofs.Tests.{both, held}
 use Rattle.answers.specs.Checks as Check
-use Rattle.answers.proofs.Laws.{first-is, first-none, degree-held, degree-met, gadget-held, gadget-met, class-number-held, class-number-met, count-held, count-met, depth-held, depth-met, exact-held, exact-met}
+use Rattle.answers.proofs.Laws.{first-none, first-met, first-passed, degree-held, degree-met, gadget-held, gadget-met, class-number-held, class-number-met, count-held, count-met, depth-held, depth-met, exact-held, exact-met}
 use Rattle.trgsw.specs.Block.{blockSize}
 use Rattle.jobfile.specs.Job.{LawfulNumbers}
 use Rattle.jobfile.specs.Reader.{behind, tablePart, readJob, Begins, beginning, numbers, fileSize, tableCount, sections, fileRefusal}
-
--- Two checks that pass are one that passes.
-first-met : (a b : ℕ) → a ≡ 0 → b ≡ 0 → Check.first a b ≡ 0
-first-met a b ea eb = ap₂ Check.first ea eb
-
--- The number of the first check that refuses, and of the second where the first passes.
-pub first-stopped : (a b r : ℕ) → r ≡ a → (r ≡ 0 → ⊥) → r ≡ Check.first a b
-first-stopped a b r e some = first-is a b r (λ z. absurd (some (e ∙ z))) (λ h. e)
-
-pub first-passed : (a b r : ℕ) → a ≡ 0 → r ≡ b → r ≡ Check.first a b
-first-passed a b r z e = first-is a b r (λ h. e) (λ h. absurd (omega arith))
 
 -- ---- the beginning
 

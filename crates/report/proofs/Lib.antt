@@ -1,4 +1,3 @@
 pub mod Pieces
 pub mod Decimal
 pub mod Lines
-pub mod Instance

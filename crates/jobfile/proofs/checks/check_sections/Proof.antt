@@ -9,11 +9,11 @@ use borrow.Author.Tests.{eq-eqb, ne-eqb}
 use Rattle.torus.specs.Bytes.{words}
 use Rattle.gadget.proofs.Bounds.{count-le}
 use Rattle.answers.specs.Checks as Check
-use Rattle.answers.proofs.Laws.{exact-met}
+use Rattle.answers.proofs.Laws.{first-passed, exact-met}
 use Rattle.trgsw.specs.Block.{blockSize}
 use Rattle.jobfile.specs.Job.{LawfulNumbers}
 use Rattle.jobfile.specs.Reader.{behind, tablePart, fileSize}
-use Rattle.jobfile.proofs.Passed.{numbers-held, first-passed}
+use Rattle.jobfile.proofs.Passed.{numbers-held}
 use Rattle.jobfile.proofs.Sections.{count-at}
 use Rattle.jobfile.proofs.checks.check_sections.Statement.{statement}
 use Rattle.jobfile.proofs.checks.check_sections.Tie as tie
