@@ -9,7 +9,7 @@ use native.Mathlib.Omega.{arith}
 use lib.Dec.{eqb, leb, ltb}
 use lib.ListN.{length, getD, drop, drop-of-length-le}
 use lib.Seq.{drop-cons}
-use borrow.Author.Tests.{ltb-true, leb-true, eqb-true, lt-ltb, le-ltb, le-leb, eq-eqb, ne-eqb}
+use borrow.Author.Tests.{ltb-true, ltb-false, leb-true, eqb-true, lt-ltb, le-ltb, le-leb, eq-eqb, ne-eqb}
 use Rattle.torus.specs.Word.{magnitude}
 use Rattle.torus.specs.Bytes.{words, bytes}
 use Rattle.torus.proofs.Parts.{bytes-words}
@@ -41,6 +41,11 @@ first-orElse (suc a) b x = refl
 -- Three checks in one.
 pub triple-orElse : (a b c : ℕ) (x : Answer) → (first a (first b c) orElse x) ≡ (a orElse b orElse c orElse x)
 triple-orElse a b c x = first-orElse a (first b c) x ∙ ap (λ y. a orElse y) (first-orElse b c x)
+
+-- Five checks in one.
+pub five-orElse : (a b c d e : ℕ) (x : Answer)
+    → (first a (first b (first c (first d e))) orElse x) ≡ (a orElse b orElse c orElse d orElse e orElse x)
+five-orElse a b c d e x = triple-orElse a b (first c (first d e)) x ∙ ap (λ y. a orElse b orElse y) (triple-orElse c d e x)
 
 -- However they are grouped.
 pub first-first : (a b c : ℕ) → first (first a b) c ≡ first a (first b c)
@@ -80,6 +85,20 @@ pub before : (a : ℕ) (x : Answer) → number (a orElse x) ≡ 0 → (a ≡ 0) 
 unfolding _orElse_
 before zero x e = (refl, e)
 before (suc a) x e = absurd (omega arith)
+
+-- A number that no check has comes from what stands behind them.
+pub check-le : (t : Bool) (k most : ℕ) → k ≤ most → cond t 0 k ≤ most
+check-le true k most h = omega arith
+check-le false k most h = h
+
+pub first-le : (a b most : ℕ) → a ≤ most → b ≤ most → first a b ≤ most
+first-le zero b most ha hb = hb
+first-le (suc a) b most ha hb = ha
+
+pub past-larger : (a most : ℕ) (x : Answer) → a ≤ most → number (a orElse x) ≡ suc most → (a ≡ 0) × (number x ≡ suc most)
+unfolding _orElse_
+past-larger zero most x low e = (refl, e)
+past-larger (suc a) most x low e = absurd (omega arith)
 
 -- ---- each word below a limit
 
@@ -200,6 +219,13 @@ quiet false f b e = absurd (omega arith)
 
 pub noise-held : (M b g : ℕ) → number (noise M b g) ≡ 0 → b < 2 ^ 31 / M
 noise-held M b g e = ltb-true b (2 ^ 31 / M) (quiet (ltb b (2 ^ 31 / M)) _ b e)
+
+loud : (t : Bool) (f : Ledger) (b : ℕ) → number (cond t (Accepted f) (Noisy b)) ≡ 9 → t ≡ false
+loud true f b e = absurd (omega arith)
+loud false f b e = refl
+
+pub noise-refused : (M b g : ℕ) → number (noise M b g) ≡ 9 → 2 ^ 31 / M ≤ b
+noise-refused M b g e = ltb-false b (2 ^ 31 / M) (loud (ltb b (2 ^ 31 / M)) _ b e)
 
 pub noise-met : (M b g : ℕ) → b < 2 ^ 31 / M → noise M b g ≡ Accepted (record { bound = b; gates = g })
 noise-met M b g h = simp (lt-ltb b (2 ^ 31 / M) h)

@@ -18,7 +18,8 @@ use Rattle.lookup.specs.Tree.{entryNumber}
 use Rattle.lookup.specs.Lookup.{selector, entryClasses, entryMessage}
 use Rattle.lookup.proofs.Accuracy.{accuracy}
 use Rattle.lookup.proofs.EndToEnd.{Made, encrypted-lookup}
-use Rattle.jobfile.specs.Job.{Job, jobFile, Whole, LawfulNumbers, WellFormed}
+use Rattle.lookup.specs.Numbers.{LawfulNumbers}
+use Rattle.jobfile.specs.Job.{Job, jobFile, Whole, WellFormed}
 use Rattle.jobfile.specs.Reader.{Begins, readJob, jobLookup, jobLookupSample, jobAnswer, jobSample}
 use Rattle.jobfile.proofs.Passed.{refused-sections}
 use Rattle.jobfile.proofs.Held.{answer-lookup}

@@ -9,10 +9,11 @@ use lib.ListN.{length, getD}
 use borrow.Author.Tests.{leb-true, eqb-true, le-leb, eq-eqb}
 use Rattle.torus.proofs.Tests.{both, held}
 use Rattle.answers.specs.Checks as Check
-use Rattle.answers.proofs.Laws.{first-none, first-met, first-passed, degree-held, degree-met, gadget-held, gadget-met, class-number-held, class-number-met, count-held, count-met, depth-held, depth-met, exact-held, exact-met}
+use Rattle.answers.proofs.Laws.{first-none, first-met, first-passed, exact-held, exact-met}
 use Rattle.trgsw.specs.Block.{blockSize}
-use Rattle.jobfile.specs.Job.{LawfulNumbers}
-use Rattle.jobfile.specs.Reader.{behind, tablePart, readJob, Begins, beginning, numbers, fileSize, tableCount, sections, fileRefusal}
+use Rattle.lookup.specs.Numbers.{LawfulNumbers}
+use Rattle.lookup.proofs.Passed.{numbers-held, numbers-met}
+use Rattle.jobfile.specs.Reader.{behind, tablePart, readJob, Begins, beginning, fileSize, tableCount, sections, fileRefusal}
 
 -- ---- the beginning
 
@@ -31,28 +32,6 @@ beginning-held file e =
 pub beginning-met : (file : List ℕ) → Begins file → beginning file ≡ 0
 beginning-met file ok =
     simp (le-leb 28 _ (ok .least), le-leb _ 65536 (ok .most), eq-eqb _ 0 (ok .whole), eq-eqb _ 5 (ok .five))
-
--- ---- the numbers
-
-pub numbers-held : (N g L M s d : ℕ) → numbers N g L M s d ≡ 0 → LawfulNumbers N g L M s d
-numbers-held N g L M s d e =
-    let degree = first-none (Check.degree N) _ e in
-    let gadget = first-none (Check.gadget g L) _ (degree .1) in
-    let class-number = first-none (Check.classNumber M) _ (gadget .1) in
-    let sizes = first-none (Check.count N s) (Check.depth d) (class-number .1) in
-    record {
-      degree = degree-held N (degree .0);
-      gadget = gadget-held g L (gadget .0);
-      class-number = class-number-held M (class-number .0);
-      some = count-held N s (sizes .0) .0;
-      most = count-held N s (sizes .0) .1;
-      depth = depth-held d (sizes .1);
-    }
-
-pub numbers-met : (N g L M s d : ℕ) → LawfulNumbers N g L M s d → numbers N g L M s d ≡ 0
-numbers-met N g L M s d ok =
-    first-met _ _ (degree-met N (ok .degree)) (first-met _ _ (gadget-met g L (ok .gadget))
-    (first-met _ _ (class-number-met M (ok .class-number)) (first-met _ _ (count-met N s (ok .some) (ok .most)) (depth-met d (ok .depth)))))
 
 -- ---- the sections
 

@@ -16,7 +16,8 @@ use Rattle.torus.proofs.Parts.{length-words, length-bytes, words-bytes, words-w
 use Rattle.torus.proofs.Joined.{Each, chunk-inside, length-chunk, chunk-joined, length-joined, joined-cong, chunk-below, chunk-append, joined-below, joined-chunks}
 use Rattle.trgsw.specs.Block.{blockSize}
 use Rattle.lookup.specs.Lookup.{selector}
-use Rattle.jobfile.specs.Job.{Job, sectionThree, fileWords, jobFile, Whole, LawfulNumbers, WellFormed}
+use Rattle.lookup.specs.Numbers.{LawfulNumbers}
+use Rattle.jobfile.specs.Job.{Job, sectionThree, fileWords, jobFile, Whole, WellFormed}
 use Rattle.jobfile.specs.Reader.{behind, selectorPart, tablePart, readBlocks, readAmplitudes, readClasses, readJob, fileSize, fileRefusal}
 use Rattle.jobfile.proofs.Sections.{blocks-each}
 use Rattle.jobfile.proofs.Passed.{Fits, Passes, refusal-held, refusal-met}

@@ -5,9 +5,10 @@ use mathlib.Core.List.{List, []}
 use Prim.Native.Nat.{ℕ, _+_, _*_}
 use Rattle.answers.specs.Answers.{after}
 use Rattle.answers.specs.declared.Answer.{Answer}
+use Rattle.lookup.specs.Numbers.{numbers}
 use Rattle.lookup.specs.Calls.{lookup, lookupSample}
 use Rattle.jobfile.specs.Job.{Job}
-use Rattle.jobfile.specs.Reader.{numbers, room}
+use Rattle.jobfile.specs.Reader.{room}
 use Rattle.jobfile.specs.declared.checks.Numbers.{Numbers}
 
 -- The code's numbers are those of the job.

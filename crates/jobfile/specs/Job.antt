@@ -6,10 +6,8 @@ use Prim.Native.Nat.{ℕ, _*_, _^_, _≤_, _<_}
 use lib.ListN.{length, getD}
 use Rattle.torus.specs.Sum.{joined}
 use Rattle.torus.specs.Bytes.{bytes}
-use Rattle.gadget.specs.Digits.{Lawful}
-use Rattle.ring.specs.Polynomial.{Degree}
-use Rattle.answers.specs.Checks.{ClassNumber}
 use Rattle.trgsw.specs.Block.{blockSize}
+use Rattle.lookup.specs.Numbers.{LawfulNumbers}
 use Rattle.lookup.specs.Lookup.{selector}
 
 -- "a job is the input of one lookup": its numbers, and its blocks, amplitudes and classes as words.
@@ -49,15 +47,6 @@ pub record Whole (j : Job) : Type 0 where
   pub amplitudes-length : length (j .amplitudes) ≡ j .d
   pub classes-length : length (j .classes) ≡ j .s * 2 ^ j .d
   pub of-words : (i : ℕ) → getD (fileWords j) i 0 < 2 ^ 32
-
--- Numbers that pass refusals 1 to 4.
-pub record LawfulNumbers (N g L M s d : ℕ) : Type 0 where
-  pub degree : Degree N
-  pub gadget : Lawful g L
-  pub class-number : ClassNumber M
-  pub some : 1 ≤ s
-  pub most : s ≤ N
-  pub depth : d ≤ 10
 
 -- A well-formed file: made of a whole job with lawful numbers, and not "over 65,536 bytes".
 pub record WellFormed (file : List ℕ) : Type 0 where

@@ -12,6 +12,7 @@ use Rattle.answers.specs.Checks as Check
 use Rattle.answers.specs.Answers.{_orElse_, after}
 use Rattle.answers.specs.declared.Answer.{Answer}
 use Rattle.trgsw.specs.Block.{blockSize}
+use Rattle.lookup.specs.Numbers.{numbers}
 use Rattle.lookup.specs.Calls.{lookup, lookupSample}
 use Rattle.jobfile.specs.Job.{Job}
 use Rattle.jobfile.specs.declared.Outcome.{Outcome}
@@ -70,12 +71,6 @@ pub record Begins (file : List ℕ) : Type 0 where
   pub whole : length file % 4 ≡ 0
   pub five : getD (words file) 0 0 ≡ 5
 
--- "Refusals 1 to 4 follow".
-abbrev pub numbers : (N g L M s d : ℕ) → ℕ
-numbers N g L M s d =
-    Check.first (Check.degree N) (Check.first (Check.gadget g L) (Check.first (Check.classNumber M)
-    (Check.first (Check.count N s) (Check.depth d))))
-
 -- The words of a file: a count and five numbers, a count and d selectors, a count and s·2^d classes.
 abbrev pub fileSize : (N L s d : ℕ) → ℕ
 fileSize N L s d = 6 + (1 + d * (1 + blockSize N 1 L)) + (1 + s * 2 ^ d)
@@ -87,7 +82,7 @@ tableCount N L s d file = cond (eqb (getD (tablePart (blockSize N 1 L) d (behind
 abbrev pub sections : (N L s d : ℕ) (file : List ℕ) → ℕ
 sections N L s d file = Check.first (Check.exact (length file) (fileSize N L s d)) (tableCount N L s d file)
 
--- What refuses a file before its lookup begins, or 0.
+-- What refuses a file before its lookup begins, or 0: its beginning, then "Refusals 1 to 4 follow", then its sections.
 unfoldable pub fileRefusal : (file : List ℕ) → ℕ
 fileRefusal file =
     let j = readJob file in

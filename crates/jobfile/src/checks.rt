@@ -58,16 +58,6 @@ pub fn read_numbers(file: &[u8]) -> Numbers
     Numbers { n, g, l, m, s, d }
 }
 
-// 1 to 4.
-fn check_numbers(x: Numbers) -> u32
-    ensures { λ r. ⌜ r ≡ Reader.numbers (x .n) (x .g) (x .l) (x .m) (x .s) (x .d) ⌝ }
-{
-    let sizes = answers::first(answers::count(x.n, x.s), answers::depth(x.d));
-    let classes = answers::first(answers::class_number(x.m), sizes);
-    let gadget = answers::first(answers::gadget(x.g, x.l), classes);
-    answers::first(answers::degree(x.n), gadget)
-}
-
 // The words of a block.
 pub fn block_words(x: Numbers) -> u64
     requires { ⌜ (x .n ≤ 1024) × (x .l ≤ 32) ⌝ }
@@ -110,7 +100,7 @@ pub fn refusal(file: &[u8]) -> u32
         return begun;
     }
     let x = read_numbers(file);
-    let unlawful = check_numbers(x);
+    let unlawful = lookup::checks::check_numbers(x.n, x.g, x.l, x.m, x.s, x.d);
     if unlawful != 0 {
         return unlawful;
     }

@@ -54,7 +54,7 @@ module _ (N g L M s d : ℕ) (blocks amplitudes classes sample work : List ℕ)
   -- ---- the sample that it leaves
 
   below : (i : ℕ) → i < length (words classes) → getD (words classes) i 0 < M
-  below i l = ok .job .below i (omega (arith, length-words classes, ok .job .classes-length))
+  below i l = ok .job .contents .below i (omega (arith, length-words classes, ok .job .lengths .classes-length))
 
   pub lookup-bytes : lookupSample N g L M s d blocks amplitudes classes sample work
       ≡ bytes (treeSample N 1 g L (words blocks) (entrySample N 1 M s (words classes)) d 0)
@@ -65,7 +65,7 @@ module _ (N g L M s d : ℕ) (blocks amplitudes classes sample work : List ℕ)
       ≡ treeSample N 1 g L (words blocks) (entrySample N 1 M s (words classes)) d 0
   lookup-words =
       ap words lookup-bytes
-      ∙ words-bytes _ (tree-sample-below N 1 g L (words blocks) _ d 0 (entry-below M s (words classes) (ok .job .class-number) below N 1))
+      ∙ words-bytes _ (tree-sample-below N 1 g L (words blocks) _ d 0 (entry-below M s (words classes) (ok .job .numbers .class-number) below N 1))
 
   pub lookup-length : length (lookupSample N g L M s d blocks amplitudes classes sample work) ≡ 4 * (2 * N)
   lookup-length =
@@ -82,8 +82,8 @@ module _ (N g L M s d : ℕ) (blocks amplitudes classes sample work : List ℕ)
         (entryMessage M s (entryNumber bits d) (words classes))
     lookup-near =
         rw lookup-words
-        (public-near M s (words classes) (ok .job .class-number) below N 1 g L N d bits (words key) (words blocks) (words amplitudes)
-        (ok .job .lawful) (weight-one N key k) bit holds)
+        (public-near M s (words classes) (ok .job .numbers .class-number) below N 1 g L N d bits (words key) (words blocks) (words amplitudes)
+        (ok .job .numbers .gadget) (weight-one N key k) bit holds)
 
     -- As a distance of words, that is at most the reported bound.
     lookup-within : (i : ℕ) → i < N
@@ -92,7 +92,7 @@ module _ (N g L M s d : ℕ) (blocks amplitudes classes sample work : List ℕ)
         ≤ bound (lookup N g L M s d blocks amplitudes classes sample work)
     lookup-within i l =
         let word : entryMessage M s (entryNumber bits d) (words classes) i < 2 ^ 32 =
-        entry-word M s (words classes) (ok .job .class-number) below (entryNumber bits d) i in
+        entry-word M s (words classes) (ok .job .numbers .class-number) below (entryNumber bits d) i in
         rw (lookup-accepts N g L M s d blocks amplitudes classes sample work ok) (near-distance (le-of-lt word) (lookup-near i l))
 
     -- So it holds the classes of that entry.
@@ -100,8 +100,8 @@ module _ (N g L M s d : ℕ) (blocks amplitudes classes sample work : List ℕ)
         ≡ entryClasses s (entryNumber bits d) (words classes)
     lookup-holds =
         rw lookup-words
-        (public-classes M s (words classes) (ok .job .class-number) below N 1 g L N d bits (words key) (words blocks) (words amplitudes)
-        (ok .job .lawful) (weight-one N key k) bit holds (ok .job .most) (omega (arith, length-words classes, ok .job .classes-length)) (ok .quiet))
+        (public-classes M s (words classes) (ok .job .numbers .class-number) below N 1 g L N d bits (words key) (words blocks) (words amplitudes)
+        (ok .job .numbers .gadget) (weight-one N key k) bit holds (ok .job .numbers .most) (omega (arith, length-words classes, ok .job .lengths .classes-length)) (ok .quiet))
 
 -- The accuracy rule.
 pub accuracy : (N g L M s d : ℕ) (bits : ℕ → ℕ) (key blocks amplitudes classes sample work out : List ℕ)
@@ -123,9 +123,9 @@ accuracy N g L M s d bits key blocks amplitudes classes sample work out e k bit 
     let accepted : number (decryptClasses N M s key result out) ≡ 0 =
     ap number (decrypt-accepts N M s key result out (record {
       key-fits = k;
-      class-number = ok .job .class-number;
-      some = ok .job .some;
-      most = ok .job .most;
+      class-number = ok .job .numbers .class-number;
+      some = ok .job .numbers .some;
+      most = ok .job .numbers .most;
       sample-length = lookup-length N g L M s d blocks amplitudes classes sample work e;
       classes-length = size;
     })) in (
@@ -147,7 +147,7 @@ pub accuracy-bytes : (N g L M s d : ℕ) (bits : ℕ → ℕ) (key blocks amplit
 accuracy-bytes N g L M s d bits key blocks amplitudes classes sample work out cb e k bit holds size =
     let ok : Findable N g L M s d blocks amplitudes classes sample work = lookup-accepted N g L M s d blocks amplitudes classes sample work e in
     let inside : entryNumber bits d * (4 * s) + 4 * s ≤ length classes =
-    omega (arith, chunk-inside (entryNumber bits d) (2 ^ d) (4 * s) (entry-number-lt bits d bit), ok .job .classes-length) in
+    omega (arith, chunk-inside (entryNumber bits d) (2 ^ d) (4 * s) (entry-number-lt bits d bit), ok .job .lengths .classes-length) in
     accuracy N g L M s d bits key blocks amplitudes classes sample work out e k bit holds size .2
     ∙ entry-bytes s (entryNumber bits d) classes cb inside
 

@@ -8,27 +8,25 @@ use lib.ListN.{length, getD, replicate}
 use lib.Pow.{pow-mono}
 use Rattle.torus.specs.Bytes.{words, bytes}
 use Rattle.torus.proofs.Parts.{length-words, bytes-words, bytes-zero}
-use Rattle.gadget.specs.Digits.{Lawful}
-use Rattle.ring.specs.Polynomial.{Degree}
-use Rattle.answers.specs.Checks.{ClassNumber}
 use Rattle.lookup.specs.declared.tree.Parameters.{Parameters}
+use Rattle.lookup.specs.Numbers.{LawfulNumbers}
 use Rattle.lookup.specs.Inner.{Public, Selectors, Run}
 use Rattle.lookup.proofs.Accepted.{Findable}
 
 -- The selectors, before the noise is tested.
 pub public-selectors : (p : Parameters) (N g L M s d : ℕ) (amplitudes : List ℕ) → Public p N g L M s
-    → Degree N → Lawful g L → ClassNumber M → s ≤ N → d ≤ 10 → length amplitudes ≡ 4 * d
+    → LawfulNumbers N g L M s d → length amplitudes ≡ 4 * d
     → ((i : ℕ) → i < d → getD (words amplitudes) i 0 ≤ 2 ^ 31) → Selectors p d amplitudes
-public-selectors p N g L M s d amplitudes e degree lawful class-number most depth size small = record {
+public-selectors p N g L M s d amplitudes e ok size small = record {
   admissible = record {
-    degree = rw (e .1) degree;
-    lawful = rw (e .2, e .3) lawful;
+    degree = rw (e .1) (ok .degree);
+    lawful = rw (e .2, e .3) (ok .gadget);
     masks = omega (arith, e .0);
-    weight = omega (arith, e .4, degree .most);
-    class-number = rw (e .5) class-number;
-    packed = omega (arith, e .1, e .6);
+    weight = omega (arith, e .4, ok .degree .most);
+    class-number = rw (e .5) (ok .class-number);
+    packed = omega (arith, e .1, e .6, ok .most);
   };
-  depth = omega arith;
+  depth = omega (arith, ok .depth);
   amplitudes-length = omega arith;
   small = small;
 }
@@ -37,14 +35,14 @@ public-selectors p N g L M s d amplitudes e degree lawful class-number most dept
 pub public-run : (p : Parameters) (N g L M s d : ℕ) (blocks amplitudes classes sample work : List ℕ) → Public p N g L M s
     → Findable N g L M s d blocks amplitudes classes sample work → Run p d 0 (length sample) (length work) (length blocks) classes
 public-run p N g L M s d blocks amplitudes classes sample work e ok =
-    let few : 2 ^ d ≤ 2 ^ 10 = pow-mono {i = d} {j = 10} (ok .job .depth) in
+    let few : 2 ^ d ≤ 2 ^ 10 = pow-mono {i = d} {j = 10} (ok .job .numbers .depth) in
     record {
       entries = omega arith;
-      sample-length = rw (e .0, e .1) (omega (arith, ok .job .sample-length));
-      work-length = rw (e .0, e .1) (omega (arith, ok .job .work-length));
-      blocks-length = rw (e .0, e .1, e .3) (omega (arith, ok .job .blocks-length));
-      classes-length = rw (e .6) (omega (arith, ok .job .classes-length));
-      below = rw (e .5) (λ i l. ok .job .below i (omega (arith, length-words classes, ok .job .classes-length)));
+      sample-length = rw (e .0, e .1) (omega (arith, ok .job .lengths .sample-length));
+      work-length = rw (e .0, e .1) (omega (arith, ok .job .lengths .work-length));
+      blocks-length = rw (e .0, e .1, e .3) (omega (arith, ok .job .lengths .blocks-length));
+      classes-length = rw (e .6) (omega (arith, ok .job .lengths .classes-length));
+      below = rw (e .5) (λ i l. ok .job .contents .below i (omega (arith, length-words classes, ok .job .lengths .classes-length)));
     }
 
 -- A slice of words that are 0.

@@ -1,14 +1,15 @@
--- What the inner functions ask of their arguments. No promise of a public call rests on these: the calls have no premise, and the checks
+-- What the inner functions ask of their arguments, and what they check. No promise of a public call rests on these: the calls have no premise, and the checks
 -- that they make give all of this.
 -- Assumes nothing.
 use mathlib.Core.Path.{_≡_}
 use mathlib.Core.List.{List}
-use Prim.Native.Nat.{ℕ, suc, _*_, _^_, _≤_, _<_}
+use Prim.Native.Nat.{ℕ, suc, _+_, _*_, _^_, _≤_, _<_}
 use lib.ListN.{length, getD}
 use Rattle.torus.specs.Bytes.{words}
 use Rattle.gadget.specs.Digits.{Lawful}
 use Rattle.ring.specs.Polynomial.{Degree}
 use Rattle.answers.specs.Checks.{ClassNumber}
+use Rattle.answers.specs.Checks as Check
 use Rattle.trgsw.specs.Block.{blockSize}
 use Rattle.lookup.specs.declared.tree.Parameters.{Parameters}
 
@@ -40,3 +41,13 @@ pub record Run (p : Parameters) (d t : ℕ) (sample work blocks : ℕ) (classes 
   pub blocks-length : 4 * (d * blockSize (p .n) (p .k) (p .l)) ≤ blocks
   pub classes-length : 4 * (suc t * 2 ^ d * p .s) ≤ length classes
   pub below : (i : ℕ) → i < length (words classes) → getD (words classes) i 0 < p .m
+
+-- Refusal 5 of the slices, by their lengths in bytes, or 0.
+abbrev pub lengths : (N L s d blocks amplitudes classes sample work : ℕ) → ℕ
+lengths N L s d blocks amplitudes classes sample work =
+    Check.first (Check.exact blocks (d * (4 * L * N))) (Check.first (Check.exact amplitudes d) (Check.first (Check.exact classes (s * 2 ^ d))
+    (Check.first (Check.exact sample (2 * N)) (Check.exact work (2 * N * (d + 1))))))
+
+-- Refusals 6 and 7 of the words in them, or 0.
+abbrev pub contents : (M : ℕ) (amplitudes classes : List ℕ) → ℕ
+contents M amplitudes classes = Check.first (Check.amplitudes amplitudes) (Check.classes M classes)

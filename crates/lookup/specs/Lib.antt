@@ -1,3 +1,4 @@
+pub mod Numbers
 pub mod Tree
 pub mod Lookup
 pub mod Inner

@@ -1,5 +1,6 @@
 // Lookups: the entry of a public table that encrypted selector bits name, as a sample, without the key. Inside, samples have k
 // masks; the public call passes k = 1.
+pub mod checks;
 pub mod tree;
 
 use crate::tree::Parameters;
@@ -56,36 +57,15 @@ pub fn lookup_answer(
     ensures { λ r. ⌜ r ≡ Calls.lookup n g l m s d
         (now (blocks .entry)) (now (amplitudes .entry)) (now (classes .entry)) (now (sample .entry)) (now (work .entry)) ⌝ }
 {
-    let numbers = answers::first(
-        answers::first(answers::degree(n), answers::gadget(g, l)),
-        answers::first(
-            answers::class_number(m),
-            answers::first(answers::count(n, s), answers::depth(d)),
-        ),
-    );
+    let numbers = checks::check_numbers(n, g, l, m, s, d);
     if numbers != 0 {
         return Answer::Refused(numbers);
     }
-    let read = answers::first(
-        answers::exact(blocks.len(), d * (4 * l * n)),
-        answers::first(
-            answers::exact(amplitudes.len(), d),
-            answers::exact(classes.len(), s * entries(d)),
-        ),
-    );
-    if read != 0 {
-        return Answer::Refused(read);
+    let lengths = checks::check_lengths(n, l, s, d, blocks, amplitudes, classes, sample, work);
+    if lengths != 0 {
+        return Answer::Refused(lengths);
     }
-    let written = answers::first(
-        answers::exact(sample.len(), 2 * n),
-        answers::exact(work.len(), 2 * n * (d + 1)),
-    );
-    if written != 0 {
-        return Answer::Refused(written);
-    }
-    let lawful_amplitudes = answers::amplitudes(amplitudes);
-    let lawful_classes = answers::classes(m, classes);
-    let contents = answers::first(lawful_amplitudes, lawful_classes);
+    let contents = checks::check_contents(m, amplitudes, classes);
     if contents != 0 {
         return Answer::Refused(contents);
     }

@@ -1,12 +1,12 @@
 -- Nearness of polynomials, and what a product does to it.
 -- Assumes nothing.
-use mathlib.Core.Path.{_≡_, ap, sym, subst}
+use mathlib.Core.Path.{sym, subst}
 use Prim.Native.Nat.{ℕ, zero, suc, _+_, _*_, _-_, _≤_, _<_}
 use native.Mathlib.Nat.{le-of-eq}
 use native.Mathlib.Omega.{arith}
 use Rattle.torus.specs.Sum.{sum}
 use Rattle.torus.proofs.Sums.{sum-const, sum-mul}
-use Rattle.torus.proofs.Near.{Near, near-path, near-sym, near-trans, near-add, near-scale, near-mul, near-sum, near-weaken, near-neg}
+use Rattle.torus.proofs.Near.{Near, near-sym, near-trans, near-add, near-scale, near-mul, near-sum, near-weaken, near-neg}
 use Rattle.ring.specs.Polynomial.{Agree}
 use Rattle.ring.proofs.Poly.{Poly, _⊕_, _⊙_, nil, psum, rot, rotn, mul}
 
@@ -15,9 +15,6 @@ abbrev pub Close : ℕ → ℕ → ℕ → Poly → Poly → Type 0
 Close Q N A p q = (k : ℕ) → k < N → Near Q A (p k) (q k)
 
 module _ {Q N : ℕ} where
-  pub close-path : {p q : Poly} → p ≡ q → Close Q N 0 p q
-  close-path e k l = near-path (ap (λ r. r k) e)
-
   pub close-sym : {A : ℕ} {p q : Poly} → Close Q N A p q → Close Q N A q p
   close-sym h k l = near-sym (h k l)
 

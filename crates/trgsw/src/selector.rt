@@ -134,11 +134,8 @@ pub fn encrypt_selector_answer(
     if contents != 0 {
         return Answer::Refused(contents);
     }
-    let bound = answers::greatest_magnitude(errors, (2 * l * n) as usize);
-    Answer::Accepted(Ledger {
-        bound: bound as u64,
-        gates: 0,
-    })
+    let bound = answers::greatest_magnitude(errors, (2 * l * n) as usize) as u64;
+    Answer::Accepted(Ledger { bound, gates: 0 })
 }
 
 // Encrypts a selector bit under the key, with masks and errors that the caller chose. Answers its number.

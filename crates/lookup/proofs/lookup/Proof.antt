@@ -53,15 +53,15 @@ returns c =
 parameters-requires : tie.Need-parameters-requires
 parameters-requires c κs =
     let f = fit (c .before .before) in
-    (f .job .degree, f .job .lawful, f .job .most)
+    (f .job .numbers .degree, f .job .numbers .gadget, f .job .numbers .most)
 
 evaluate-requires : tie.Need-evaluate-requires
 evaluate-requires c κs =
     let f = fit (c .before .before .before) in
     let e = c .parameters .ensures in (
-      public-selectors _ _ _ _ _ _ _ _ e (f .job .degree) (f .job .lawful) (f .job .class-number) (f .job .most) (f .job .depth) (f .job .amplitudes-length) (f .job .small),
+      public-selectors _ _ _ _ _ _ _ _ e (f .job .numbers) (f .job .lengths .amplitudes-length) (f .job .contents .small),
       public-run _ _ _ _ _ _ _ _ _ _ _ _ e f,
-      omega (arith, f .job .work-length),
+      omega (arith, f .job .lengths .work-length),
     )
 
 same-length-3 : tie.Need-same-length-3
@@ -82,9 +82,9 @@ returns-2 c =
       ap₂ (λ (b g : ℕ). Accepted (record { bound = b; gates = g }))
           (rw (E .ensures .2, e .0, e .1, e .2, e .3, e .4)) (E .ensures .3)
           ∙ sym (lookup-accepts _ _ _ _ _ _ _ _ _ _ _ f),
-      after-accepted (answer s) (2 * a .n) _ _ _ z (omega (arith, E .kept .0, f .job .sample-length)) (λ i. c .before .before .slice-known3 .given i .fits)
+      after-accepted (answer s) (2 * a .n) _ _ _ z (omega (arith, E .kept .0, f .job .lengths .sample-length)) (λ i. c .before .before .slice-known3 .given i .fits)
           (rw (E .ensures .0, e .0, e .1, e .2, e .3, e .5, e .6)),
-      cleared (2 * a .n * (a .d + 1)) _ (omega (arith, E .kept .1 .0, f .job .work-length)) (λ i. c .slice-known4 .given i .fits)
+      cleared (2 * a .n * (a .d + 1)) _ (omega (arith, E .kept .1 .0, f .job .lengths .work-length)) (λ i. c .slice-known4 .given i .fits)
           (E .ensures .1 ∙ ap (λ (m : ℕ). replicate (m / 4) 0) (sym (E .kept .1 .0)))
           ∙ ap (λ (m : ℕ). replicate m 0) (E .kept .1 .0) ∙ sym (after-written (answer s) _ _ z),
     )

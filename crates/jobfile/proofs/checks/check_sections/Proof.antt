@@ -11,9 +11,9 @@ use Rattle.gadget.proofs.Bounds.{count-le}
 use Rattle.answers.specs.Checks as Check
 use Rattle.answers.proofs.Laws.{first-passed, exact-met}
 use Rattle.trgsw.specs.Block.{blockSize}
-use Rattle.jobfile.specs.Job.{LawfulNumbers}
+use Rattle.lookup.specs.Numbers.{LawfulNumbers}
+use Rattle.lookup.proofs.Passed.{numbers-held}
 use Rattle.jobfile.specs.Reader.{behind, tablePart, fileSize}
-use Rattle.jobfile.proofs.Passed.{numbers-held}
 use Rattle.jobfile.proofs.Sections.{count-at}
 use Rattle.jobfile.proofs.checks.check_sections.Statement.{statement}
 use Rattle.jobfile.proofs.checks.check_sections.Tie as tie

@@ -2,7 +2,8 @@
 use mathlib.Core.Path.{_≡_, sym, _∙_}
 use borrow.Author.Needs.{needs}
 use Rattle.answers.proofs.Laws.{first-stopped, first-passed}
-use Rattle.jobfile.specs.Reader.{readJob, beginning, numbers, fileRefusal}
+use Rattle.lookup.specs.Numbers.{numbers}
+use Rattle.jobfile.specs.Reader.{readJob, beginning, fileRefusal}
 use Rattle.jobfile.proofs.Passed.{beginning-held}
 use Rattle.jobfile.proofs.checks.refusal.Statement.{statement}
 use Rattle.jobfile.proofs.checks.refusal.Tie as tie

@@ -162,8 +162,8 @@ mul-greatest-magnitude-2 c = omega (arith, small (c .before .before .before .bef
 greatest-magnitude-requires : tie.Need-greatest-magnitude-requires
 greatest-magnitude-requires c κs = omega (arith, errors-length (c .before .before .before .before .before .before))
 
-cast-t27 : tie.Need-cast-t27
-cast-t27 c = search needs
+cast-bound : tie.Need-cast-bound
+cast-bound c = search needs
 
 returns-5 : tie.Need-returns-5
 unfolding Calls.encryptSelector
@@ -205,5 +205,5 @@ encrypt-selector-answer-spec =
     mul-greatest-magnitude
     mul-greatest-magnitude-2
     greatest-magnitude-requires
-    cast-t27
+    cast-bound
     returns-5)

@@ -1,9 +1,9 @@
--- `jobfile::checks::check_numbers` meets its contract. Assumes nothing.
+-- `lookup::checks::check_numbers` meets its contract. Assumes nothing.
 use mathlib.Core.Path.{ap₂, _∙_}
 use borrow.Author.Needs.{needs}
 use Rattle.answers.specs.Checks as Check
-use Rattle.jobfile.proofs.checks.check_numbers.Statement.{statement}
-use Rattle.jobfile.proofs.checks.check_numbers.Tie as tie
+use Rattle.lookup.proofs.checks.check_numbers.Statement.{statement}
+use Rattle.lookup.proofs.checks.check_numbers.Tie as tie
 
 count-requires : tie.Need-count-requires
 count-requires c κs = search needs
