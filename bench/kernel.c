@@ -1,47 +1,40 @@
-// The product kernel beside the same schoolbook in C, in one process. The outputs are compared first.
-#include "measure.h"
+/* The product kernel: a digit polynomial of x times a row, added to what is there. */
+#include "schoolbook.h"
+#include "sizes.h"
+#include "thing.h"
 
-#include <stdio.h>
 #include <stdlib.h>
-#include <string.h>
 
-enum { N = 1024, G = 8, L = 2, J = 1, VARIANTS = 3 };
+enum { J = 1 };
 
-// crates/digit_row: a slice is a pointer and a length in bytes.
-uint32_t add_digit_row(uint64_t n, uint64_t g, uint64_t l, uint64_t j, const uint8_t *x, size_t x_len, const uint8_t *row,
-                       size_t row_len, uint8_t *digits, size_t digits_len, uint8_t *out, size_t out_len);
-typedef void schoolbook(size_t n, uint32_t g, uint32_t l, uint32_t j, const uint32_t *x, const uint32_t *row, uint32_t *digits,
-                        uint32_t *out);
-schoolbook schoolbook_o3, schoolbook_o2;
+/* crates/digit_row: a slice is a pointer and a length in bytes. */
+uint32_t add_digit_row(uint64_t n, uint64_t g, uint64_t l, uint64_t j, const uint8_t *x, size_t x_length, const uint8_t *row,
+                       size_t row_length, uint8_t *digits, size_t digits_length, uint8_t *out, size_t out_length);
 
 static uint32_t x[N], row[N], digits[N], out[N];
 
-static void rattle(void) {
-    if (add_digit_row(N, G, L, J, (const uint8_t *)x, sizeof x, (const uint8_t *)row, sizeof row, (uint8_t *)digits, sizeof digits,
-                      (uint8_t *)out, sizeof out) != 0)
+static void library(const void *with)
+{
+    (void)with;
+    if (add_digit_row(N, G, L, J, SLICE(x, N), SLICE(row, N), SLICE(digits, N), SLICE(out, N)) != 0)
         exit(1);
 }
-static void c_o3(void) { schoolbook_o3(N, G, L, J, x, row, digits, out); }
-static void c_o2(void) { schoolbook_o2(N, G, L, J, x, row, digits, out); }
 
-static const struct variant variants[VARIANTS] = {{"C, gcc -O3", c_o3}, {"C, gcc -O2", c_o2}, {"Rattle", rattle}};
+static void in_c(const void *with)
+{
+    const struct schoolbook *c = with;
+    c->add_digit_row(N, G, L, J, x, row, digits, out);
+}
 
-int main(void) {
-    static uint32_t start[N], want[N];
+static const struct variant variants[] = {{LIBRARY, library, NULL}, SCHOOLBOOKS(in_c)};
+static const struct thing thing = {"digit row times polynomial", variants, sizeof variants / sizeof variants[0], MOST_ROUNDS};
+static const struct output output = {out, N, NULL};
+
+int main(int count, char **arguments)
+{
     fill(x, N);
     fill(row, N);
-    fill(start, N);
-    for (int v = 0; v < VARIANTS; v++) {
-        memcpy(out, start, sizeof out);
-        variants[v].run();
-        if (v == 0)
-            memcpy(want, out, sizeof out);
-        if (greatest_distance(want, out, N) != 0) {
-            printf("%s: the words differ\n", variants[v].name);
-            return 1;
-        }
-    }
-    printf("digit polynomial times row, N = %d, g = %d, L = %d; the words of all variants agree\n", N, G, L);
-    measure(variants, VARIANTS, MOST_ROUNDS);
+    compare(&thing, &output);
+    measure(&thing, count > 1 ? arguments[1] : NULL);
     return 0;
 }

@@ -1,16 +1,16 @@
-// Times as ratios within one run: a machine's load changes from run to run, and less from turn to turn.
+/* Times as ratios within one run: a machine's load changes from run to run, and less from turn to turn. */
+#define _XOPEN_SOURCE 700
 #include "measure.h"
 
-#include <stdio.h>
 #include <stdlib.h>
+#include <sys/resource.h>
 #include <time.h>
 
-enum { VARIANTS = 8 };
-
-// A turn repeats a variant for about so many seconds, so that the clock's grain doesn't count.
+/* A turn repeats a variant for about so many seconds, so that the clock's grain doesn't count. */
 static const double turn = 0.006;
 
-void fill(uint32_t *words, size_t count) {
+void fill(uint32_t *words, size_t count)
+{
     static uint64_t state = 88172645463325252u;
     for (size_t i = 0; i < count; i++) {
         state ^= state << 13;
@@ -20,60 +20,91 @@ void fill(uint32_t *words, size_t count) {
     }
 }
 
-uint32_t greatest_distance(const uint32_t *x, const uint32_t *y, size_t count) {
-    uint32_t greatest = 0;
-    for (size_t i = 0; i < count; i++) {
-        uint32_t difference = x[i] - y[i], back = y[i] - x[i];
-        uint32_t distance = difference < back ? difference : back;
-        greatest = distance > greatest ? distance : greatest;
-    }
-    return greatest;
+/*
+ * Seconds of the processor that this program has taken, and the programs that it has run: what else the machine does counts
+ * little.
+ */
+static double processor_time(void)
+{
+    struct timespec own;
+    struct rusage others;
+    clock_gettime(CLOCK_PROCESS_CPUTIME_ID, &own);
+    getrusage(RUSAGE_CHILDREN, &others);
+    return (double)(own.tv_sec + others.ru_utime.tv_sec + others.ru_stime.tv_sec) + 1e-9 * (double)own.tv_nsec +
+           1e-6 * (double)(others.ru_utime.tv_usec + others.ru_stime.tv_usec);
 }
 
-static double seconds(void (*run)(void), unsigned times) {
-    struct timespec a, b;
-    clock_gettime(CLOCK_MONOTONIC, &a);
-    for (unsigned i = 0; i < times; i++)
-        run();
-    clock_gettime(CLOCK_MONOTONIC, &b);
-    return ((double)(b.tv_sec - a.tv_sec) + 1e-9 * (double)(b.tv_nsec - a.tv_nsec)) / times;
+static double time_of(const struct variant *variant, unsigned repeats)
+{
+    double start = processor_time();
+    for (unsigned i = 0; i < repeats; i++)
+        variant->run(variant->with);
+    return (processor_time() - start) / repeats;
 }
 
-static int by_value(const void *a, const void *b) {
+void take_times(const struct variant *variants, size_t count, int rounds, seconds times)
+{
+    unsigned repeats[MOST_VARIANTS];
+    if (count > MOST_VARIANTS || rounds < 1 || rounds > MOST_ROUNDS)
+        exit(1);
+    for (size_t v = 0; v < count; v++)
+        repeats[v] = 1 + (unsigned)(turn / time_of(variants + v, 1));
+    for (int r = 0; r < rounds; r++)
+        for (size_t i = 0; i < count; i++) {
+            size_t v = (i + (size_t)r) % count;
+            times[v][r] = time_of(variants + v, repeats[v]);
+        }
+}
+
+static int by_value(const void *a, const void *b)
+{
     double p = *(const double *)a, q = *(const double *)b;
     return (p > q) - (p < q);
 }
 
-// To the first variant: of the best times, and the median over rounds. To the fastest: of the best times.
-static void print_ratios(const struct variant *variants, size_t count, double ratio[][MOST_ROUNDS], int rounds,
-                         const double *best) {
-    double fastest = best[0];
-    for (size_t v = 1; v < count; v++)
-        fastest = best[v] < fastest ? best[v] : fastest;
-    printf("%-28s %16s %16s %16s\n", "", "to the first", "median", "to the fastest");
-    for (size_t v = 0; v < count; v++) {
-        qsort(ratio[v], (size_t)rounds, sizeof(double), by_value);
-        printf("%-28s %16.3g %16.3g %16.3g\n", variants[v].name, best[v] / best[0], ratio[v][rounds / 2], best[v] / fastest);
-    }
+double best_of(const double *times, int rounds)
+{
+    double best = times[0];
+    for (int r = 1; r < rounds; r++)
+        best = times[r] < best ? times[r] : best;
+    return best;
 }
 
-void measure(const struct variant *variants, size_t count, int rounds) {
-    static double ratio[VARIANTS][MOST_ROUNDS], best[VARIANTS];
-    unsigned times[VARIANTS];
-    if (count > VARIANTS || rounds < 1 || rounds > MOST_ROUNDS)
+struct ratio ratio_of(const double *times, const double *others, int rounds)
+{
+    double ratios[MOST_ROUNDS];
+    for (int r = 0; r < rounds; r++)
+        ratios[r] = times[r] / others[r];
+    qsort(ratios, (size_t)rounds, sizeof *ratios, by_value);
+    return (struct ratio){ratios[rounds / 2], ratios[0], ratios[rounds - 1], best_of(times, rounds) / best_of(others, rounds)};
+}
+
+FILE *open_rows(const char *directory, const char *name)
+{
+    char path[4096];
+    FILE *file = NULL;
+    if (snprintf(path, sizeof path, "%s/%s", directory, name) < (int)sizeof path)
+        file = fopen(path, "a");
+    if (file == NULL) {
+        fprintf(stderr, "%s/%s can't be written\n", directory, name);
         exit(1);
-    for (size_t v = 0; v < count; v++) {
-        best[v] = seconds(variants[v].run, 1);
-        times[v] = 1 + (unsigned)(turn / best[v]);
     }
-    for (int r = 0; r < rounds; r++) {
-        double time[VARIANTS];
-        for (size_t v = 0; v < count; v++) {
-            time[v] = seconds(variants[v].run, times[v]);
-            best[v] = time[v] < best[v] ? time[v] : best[v];
-        }
-        for (size_t v = 0; v < count; v++)
-            ratio[v][r] = time[v] / time[0];
-    }
-    print_ratios(variants, count, ratio, rounds, best);
+    return file;
+}
+
+void print_number(FILE *file, double number) { fprintf(file, number < 9.995 ? " %.2f |" : " %.0f |", number); }
+
+void print_spread(FILE *file, const struct ratio *ratio)
+{
+    fprintf(file, ratio->greatest < 9.995 ? " %.2f to %.2f |" : " %.0f to %.0f |", ratio->least, ratio->greatest);
+}
+
+void print_time(FILE *file, double time)
+{
+    if (time < 1e-3)
+        fprintf(file, " %.3g µs |", 1e6 * time);
+    else if (time < 1)
+        fprintf(file, " %.3g ms |", 1e3 * time);
+    else
+        fprintf(file, " %.3g s |", time);
 }

@@ -1,15 +1,16 @@
-// The whole of ratejob in plain C, with the CMux of schoolbook.c: reads a job file from standard input, tests it, and prints what
-// document 01 says. Compiled once for each build of schoolbook.c, with the same CMUX.
+/*
+ * The whole of ratejob in plain C, with the CMux of schoolbook.c: reads a job file from standard input, tests it, and prints what
+ * document 01 says. Compiled once for each build of schoolbook.c, with the same BUILD.
+ */
+#include "schoolbook.h"
+#include "tree.h"
+
 #include <inttypes.h>
 #include <stdio.h>
-#include <string.h>
 
-enum { LARGEST = 65536, SMALLEST = 28, MOST_COEFFICIENTS = 1024, MOST_SELECTORS = 10 };
+enum { LARGEST = 65536, SMALLEST = 28 };
 
-void CMUX(size_t n, uint32_t g, uint32_t l, const uint32_t *block, const uint32_t *sample0, const uint32_t *sample1, uint32_t *room,
-          uint32_t *out);
-
-// A job's numbers, and the rest of its words: for each selector the amplitude and the block, then a count, then the classes.
+/* A job's numbers, and the rest of its words: for each selector the amplitude and the block, then a count, then the classes. */
 struct job {
     uint32_t n, g, l, m, s, d;
     const uint32_t *selectors;
@@ -20,8 +21,9 @@ static uint32_t class_count(const struct job *job) { return job->s << job->d; }
 static const uint32_t *selector(const struct job *job, size_t i) { return job->selectors + i * selector_words(job); }
 static const uint32_t *section_three(const struct job *job) { return selector(job, job->d); }
 
-// The file's words; how many bytes there are, up to one more than the largest file has.
-static size_t read_words(uint32_t *words) {
+/* The file's words; how many bytes there are, up to one more than the largest file has. */
+static size_t read_words(uint32_t *words)
+{
     static uint8_t bytes[LARGEST + 1];
     size_t length = fread(bytes, 1, sizeof bytes, stdin);
     for (size_t i = 0; i < length / 4; i++) {
@@ -31,11 +33,13 @@ static size_t read_words(uint32_t *words) {
     return length;
 }
 
-static int is_power_of_two(uint32_t x, uint32_t least, uint32_t most) {
+static int is_power_of_two(uint32_t x, uint32_t least, uint32_t most)
+{
     return least <= x && x <= most && (x & (x - 1)) == 0;
 }
 
-static uint32_t judge_numbers(const struct job *job) {
+static uint32_t judge_numbers(const struct job *job)
+{
     if (!is_power_of_two(job->n, 1, MOST_COEFFICIENTS))
         return 1;
     if (job->g < 1 || job->g > 16 || job->l == 0 || job->l > 32 / job->g)
@@ -47,7 +51,8 @@ static uint32_t judge_numbers(const struct job *job) {
     return 0;
 }
 
-static uint32_t judge_sections(const struct job *job, size_t length) {
+static uint32_t judge_sections(const struct job *job, size_t length)
+{
     if (length != 4 * (7 + job->d * selector_words(job) + 1 + class_count(job)) || *section_three(job) != class_count(job))
         return 5;
     for (size_t i = 0; i < job->d; i++)
@@ -59,16 +64,18 @@ static uint32_t judge_sections(const struct job *job, size_t length) {
     return 0;
 }
 
-// The sum of the charges.
-static uint64_t noise_bound(const struct job *job) {
+/* The sum of the charges. */
+static uint64_t noise_bound(const struct job *job)
+{
     uint64_t n = job->n, precision = job->g * job->l < 32 ? UINT64_C(1) << (31 - job->g * job->l) : 0, bound = 0;
     for (size_t i = 0; i < job->d; i++)
         bound += (2 * job->l * n << (job->g - 1)) * *selector(job, i) + (1 + n) * precision;
     return bound;
 }
 
-// Takes the file apart and tests it.
-static uint32_t judge(const uint32_t *words, size_t length, struct job *job, uint64_t *bound) {
+/* Takes the file apart and tests it. */
+static uint32_t judge(const uint32_t *words, size_t length, struct job *job, uint64_t *bound)
+{
     if (length < SMALLEST || length > LARGEST || length % 4 != 0 || words[0] != 5)
         return 5;
     *job = (struct job){words[1], words[2], words[3], words[4], words[5], words[6], words + 7};
@@ -81,28 +88,27 @@ static uint32_t judge(const uint32_t *words, size_t length, struct job *job, uin
     return *bound < (UINT64_C(1) << 31) / job->m ? 0 : 9;
 }
 
-// What the 2^level entries from t * 2^level on are joined to. Each level has room for the two samples that it joins.
-static void tree(const struct job *job, size_t level, size_t t, uint32_t *result) {
-    static uint32_t pair[MOST_SELECTORS][2][2 * MOST_COEFFICIENTS], room[3 * MOST_COEFFICIENTS];
-    if (level == 0) {
-        const uint32_t *classes = section_three(job) + 1 + t * job->s;
-        memset(result, 0, 2 * job->n * sizeof *result);
-        for (size_t i = 0; i < job->s; i++)
-            result[job->n + i] = classes[i] * (UINT32_MAX / job->m + 1);
-        return;
-    }
-    uint32_t *sample0 = pair[level - 1][0], *sample1 = pair[level - 1][1];
-    tree(job, level - 1, 2 * t, sample0);
-    tree(job, level - 1, 2 * t + 1, sample1);
-    CMUX(job->n, job->g, job->l, selector(job, level - 1) + 1, sample0, sample1, room, result);
+static void join(const void *with, size_t i, const uint32_t *sample0, const uint32_t *sample1, uint32_t *result)
+{
+    static uint32_t room[3 * MOST_COEFFICIENTS];
+    const struct job *job = with;
+    BUILD.cmux(job->n, job->g, job->l, selector(job, i) + 1, sample0, sample1, room, result);
 }
 
-static void print_polynomial(const char *name, const uint32_t *coefficients, uint32_t n) {
+static void look_up(const struct job *job, uint32_t *sample)
+{
+    struct table table = {job->n, job->s, job->m, section_three(job) + 1};
+    join_entries(&table, join, job, job->d, 0, sample);
+}
+
+static void print_polynomial(const char *name, const uint32_t *coefficients, uint32_t n)
+{
     for (uint32_t i = 0; i < n; i++)
         printf("%s %" PRIu32 " %" PRIu32 "\n", name, i, coefficients[i]);
 }
 
-int main(void) {
+int main(void)
+{
     static uint32_t words[LARGEST / 4], sample[2 * MOST_COEFFICIENTS];
     struct job job;
     uint64_t bound = 0;
@@ -111,7 +117,7 @@ int main(void) {
     printf("answer %" PRIu32 "\nbound %" PRIu64 "\n", answer, bound);
     if (answer != 0)
         return 0;
-    tree(&job, job.d, 0, sample);
+    look_up(&job, sample);
     printf("gates %" PRIu32 "\n", (UINT32_C(1) << job.d) - 1);
     print_polynomial("mask", sample, job.n);
     print_polynomial("body", sample + job.n, job.n);

@@ -1,10 +1,13 @@
-// The product kernel and the CMux in plain C, modulo X^n + 1.
-// Compiled once for each level of optimisation, and once with SKIP_ZEROS, under the names SCHOOLBOOK and CMUX.
-#include <stddef.h>
-#include <stdint.h>
+/*
+ * The product kernel and the CMux in plain C, modulo X^n + 1.
+ * Compiled several times, under the name BUILD: without and with SKIP_ZEROS, and for the very machine.
+ */
+#include "schoolbook.h"
+
 #include <string.h>
 
-static void write_digits(uint32_t *restrict digits, const uint32_t *restrict x, size_t n, uint32_t g, uint32_t l, uint32_t j) {
+static void write_digits(uint32_t *restrict digits, const uint32_t *restrict x, size_t n, uint32_t g, uint32_t l, uint32_t j)
+{
     uint32_t offset = g * l < 32 ? 1u << (31 - g * l) : 0;
     for (uint32_t k = 1; k <= l; k++)
         offset += 1u << (32 - g * k + g - 1);
@@ -13,7 +16,8 @@ static void write_digits(uint32_t *restrict digits, const uint32_t *restrict x, 
         digits[i] = (((x[i] + offset) >> (32 - g * j)) & mask) - half;
 }
 
-static void add_product(uint32_t *restrict out, const uint32_t *restrict small, const uint32_t *restrict row, size_t n) {
+static void add_product(uint32_t *restrict out, const uint32_t *restrict small, const uint32_t *restrict row, size_t n)
+{
     for (size_t i = 0; i < n; i++) {
         uint32_t d = small[i];
 #ifdef SKIP_ZEROS
@@ -27,15 +31,16 @@ static void add_product(uint32_t *restrict out, const uint32_t *restrict small, 
     }
 }
 
-// To out, digit polynomial j of x times row.
-void SCHOOLBOOK(size_t n, uint32_t g, uint32_t l, uint32_t j, const uint32_t *x, const uint32_t *row, uint32_t *digits, uint32_t *out) {
+static void add_digit_row(size_t n, uint32_t g, uint32_t l, uint32_t j, const uint32_t *x, const uint32_t *row, uint32_t *digits,
+                          uint32_t *out)
+{
     write_digits(digits, x, n, g, l, j);
     add_product(out, digits, row, n);
 }
 
-// The CMux; room has 3n words.
-void CMUX(size_t n, uint32_t g, uint32_t l, const uint32_t *block, const uint32_t *sample0, const uint32_t *sample1, uint32_t *room,
-          uint32_t *out) {
+static void cmux(size_t n, uint32_t g, uint32_t l, const uint32_t *block, const uint32_t *sample0, const uint32_t *sample1,
+                 uint32_t *room, uint32_t *out)
+{
     uint32_t *difference = room, *digits = room + 2 * n;
     for (size_t i = 0; i < 2 * n; i++)
         difference[i] = sample1[i] - sample0[i];
@@ -46,3 +51,5 @@ void CMUX(size_t n, uint32_t g, uint32_t l, const uint32_t *block, const uint32_
         add_product(out + n, digits, block + (2 * r + 1) * n, n);
     }
 }
+
+const struct schoolbook BUILD = {add_product, add_digit_row, cmux};

@@ -1,5 +1,5 @@
 /*
- * What the two programs of the broker share: words in bytes, the key, and a stand-in for a source of randomness.
+ * What the broker's programs share: words in bytes, the key, and a stand-in for a source of randomness.
  */
 #ifndef BROKER_H
 #define BROKER_H

@@ -89,14 +89,18 @@ static size_t exact_words(struct arguments *a, enum kind kind)
     return 0;
 }
 
+size_t exact_length(struct arguments *a, size_t k)
+{
+    return 4 * exact_words(a, a->call->kind[k]);
+}
+
 void fit(struct arguments *a)
 {
     for (size_t k = 0; k < a->call->slices; k++)
-        set_length(&a->slice[k], 4 * exact_words(a, a->call->kind[k]));
+        set_length(&a->slice[k], exact_length(a, k));
 }
 
-/* A lawful word: a sample's error is small enough for every M, a class is below M, an amplitude is small. */
-static uint32_t lawful_word(enum kind kind, uint64_t M, uint64_t *state)
+uint32_t lawful_word(enum kind kind, uint64_t M, uint64_t *state)
 {
     uint64_t random = next_random(state);
     switch (kind) {

@@ -115,6 +115,9 @@ void check(int holds, const char *format, ...) __attribute__((format(printf, 2, 
 void check_call(const struct arguments *a, int holds, const char *format, ...)
     __attribute__((format(printf, 3, 4)));
 
+/* How many checks failed up to here. */
+uint64_t failures(void);
+
 /* Prints the count of checks; what main returns. */
 int finish(void);
 
@@ -163,11 +166,17 @@ struct numbers usual(uint64_t N);
 void lawful(struct arguments *a, const struct call *call, struct numbers n, uint64_t seed);
 
 /*
- * Gives every slice the exact length for the numbers. A number of 4,096 or more counts by its lowest
+ * The exact length of slice k for the numbers, in bytes. A number of 4,096 or more counts by its lowest
  * twelve bits: these lengths fit if it is cut to any width from twelve bits up. d counts by its lowest six,
  * as in a shift, and 2^d is 0 from d = 13 on.
  */
+size_t exact_length(struct arguments *a, size_t k);
+
+/* Gives every slice its exact length. */
 void fit(struct arguments *a);
+
+/* A lawful word: a sample's error is small enough for every M, a class is below M, an amplitude is small. */
+uint32_t lawful_word(enum kind kind, uint64_t M, uint64_t *state);
 
 /* ---- plain.c ---- */
 

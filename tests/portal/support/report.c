@@ -68,6 +68,11 @@ void check_call(const struct arguments *a, int holds, const char *format, ...)
     va_end(list);
 }
 
+uint64_t failures(void)
+{
+    return failed;
+}
+
 int finish(void)
 {
     if (failed > PRINTED)
