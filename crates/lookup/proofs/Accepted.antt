@@ -6,7 +6,7 @@ use Prim.Native.Nat.{ℕ, _-_, _*_, _/_, _^_, _≤_, _<_}
 use lib.ListN.{length}
 use borrow.Author.Tests.{le-ltb}
 use Rattle.torus.specs.Bytes.{words}
-use Rattle.answers.specs.Answers.{number, _orElse_, noise}
+use Rattle.answers.specs.Answers.{number, noise}
 use Rattle.answers.specs.declared.Answer.the-variants.{Accepted, Noisy}
 use Rattle.answers.proofs.Laws.{before, past-larger, went-on, noise-held, noise-met, noise-refused}
 use Rattle.lookup.specs.Numbers.{LawfulNumbers, numbers}

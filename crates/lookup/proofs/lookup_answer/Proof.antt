@@ -1,7 +1,7 @@
 -- `lookup::lookup_answer` meets its contract. Assumes nothing.
 use native.Mathlib.Omega.{arith}
 use mathlib.Core.Path.{_≡_, ap₂, sym, _∙_}
-use Prim.Native.Nat.{ℕ, _-_, _*_, _^_}
+use Prim.Native.Nat.{_-_, _*_, _^_}
 use lib.ListN.{length}
 use lib.Pow.{pow-pos}
 use Rattle.torus.specs.Bytes.{words}
