@@ -87,6 +87,7 @@ static const struct series all[] = {
      {{TREE_N, L, 4}, {TREE_N, L, 5}, {TREE_N, L, 6}, {TREE_N, L, 7}, {TREE_N, L, 8}, {TREE_N, L, 9}, {TREE_N, L, 10}}},
     {"lookup-N.md", library_lookup, c_lookup, n_of, 5,
      {{64, L, SMALL_D}, {128, L, SMALL_D}, {256, L, SMALL_D}, {512, L, SMALL_D}, {1024, L, SMALL_D}}},
+    {"lookup-L.md", library_lookup, c_lookup, l_of, 3, {{512, 2, 5}, {512, 3, 5}, {512, 4, 5}}},
     {"cmux-N.md", library_cmux, c_cmux, n_of, 8,
      {{8, L, 1}, {16, L, 1}, {32, L, 1}, {64, L, 1}, {128, L, 1}, {256, L, 1}, {512, L, 1}, {1024, L, 1}}},
     {"cmux-L.md", library_cmux, c_cmux, l_of, 4, {{N, 1, 1}, {N, 2, 1}, {N, 3, 1}, {N, 4, 1}}},

@@ -21,7 +21,8 @@ summary() {
 # Measurements
 
 `bench/run` has measured all of this in one run and has written this page. A ratio is the library's time over the other's, in the
-same run: below 1 the library is faster. "Time here" is the library's best time on the machine named below.
+same run: below 1 the library is faster. "Time here" is the library's best time on the machine named below. On a machine that is
+shared with others, ratios of another run can differ by a third, and times by more.
 
 ## Summary
 
@@ -112,6 +113,17 @@ END
     growth_table N lookup-N.md
     cat << 'END'
 
+### Lookup, with the digits L
+
+N = 512, g = 8, M = 16, s = 512, d = 5. L = 1 is left out: rounding to one digit makes too much noise, and the lookup is refused with
+9. A difference of two entries has one digit that isn't 0, whatever L is, and makes 2 products of polynomials; the other CMuxes make
+4*L. There are 16 CMuxes of the former kind and 15 of the latter, so with zeros skipped the time should go like 32 + 60*L: by 1.39 and
+1.28, where L alone would have it by 1.50 and 1.33.
+
+END
+    growth_table L lookup-L.md
+    cat << 'END'
+
 ### CMux, with the degree N
 
 g = 8, L = 2. The samples are random words, so hardly any digit is 0. The library's accumulator and its table of a row have room
@@ -124,7 +136,7 @@ END
 
 ### CMux, with the digits L
 
-N = 1,024, g = 8, random samples. A lookup grows by less: an entry's digits below its class are 0, whatever L is, and are skipped.
+N = 1,024, g = 8, random samples, so hardly any digit is 0.
 
 END
     growth_table L cmux-L.md
