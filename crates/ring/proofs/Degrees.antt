@@ -3,15 +3,16 @@
 use mathlib.Core.Path.{_≡_, refl, ap, _∙_}
 use mathlib.Core.Bool.{true}
 use mathlib.Core.Logic.{_⊎_, inl, inr, ⊎-elim}
-use Prim.Native.Nat.{ℕ, zero, suc, _+_, _*_, _/_, _%_, _^_, _<_}
-use native.Mathlib.Nat.{pow-succ', eq-zero-or-pos, lt-of-le-of-lt}
+use Prim.Native.Nat.{ℕ, zero, suc, _+_, _*_, _/_, _%_, _^_, _≤_, _<_}
+use native.Mathlib.Nat.{pow-succ', eq-zero-or-pos, lt-of-le-of-lt, lt-of-not-le}
+use native.Mathlib.Decide.{decLe}
 use native.Mathlib.Omega.{arith}
 use lib.Count.{ones, onesIn, trailingZeros, ones-step}
 use lib.Dec.{eqb, lit<}
-use lib.Pow.{pow-pos}
+use lib.Pow.{pow-pos, pow-mono}
 use borrow.Author.Tests.{leb-true, eqb-true, le-leb, eq-eqb}
 use Rattle.torus.proofs.Tests.{both}
-use Rattle.ring.specs.Polynomial.{Degree, isDegree}
+use Rattle.ring.specs.Polynomial.{Degree, isDegree, log}
 
 pub test-degree : (N : ℕ) → isDegree N ≡ true → Degree N
 test-degree N e =
@@ -59,3 +60,13 @@ degree-power N ok = one-set 64 N (lt-of-le-of-lt (ok .most) (lit< tt)) (ok .powe
 
 pub degree-pos : (N : ℕ) → Degree N → 0 < N
 degree-pos N ok = omega (arith, degree-power N ok, pow-pos (trailingZeros 64 N))
+
+-- The exponent of a degree is at most 10.
+pub exponent-few : (N : ℕ) → Degree N → log N ≤ 10
+exponent-few N D = go (decLe (log N) 10)
+  where
+    go : Dec (log N ≤ 10) → log N ≤ 10
+    go (yes g) = g
+    go (no g) =
+        let l : 11 ≤ log N = lt-of-not-le g in
+        let f : ⊥ = omega (arith, pow-mono {i = 11} {j = log N} l, degree-power N D, D .most) in absurd f

@@ -5,7 +5,7 @@ use mathlib.Core.Path.{_≡_}
 use mathlib.Core.Bool.{Bool, _&&_}
 use mathlib.Core.List.{List}
 use Prim.Native.Nat.{ℕ, suc, _+_, _-_, _*_, _%_, _^_, _≤_, _<_}
-use lib.Count.{ones}
+use lib.Count.{ones, trailingZeros}
 use lib.Dec.{eqb, leb}
 use lib.ListN.{length, getD}
 use Rattle.torus.specs.Sum.{sum, tabulate}
@@ -20,6 +20,10 @@ pub record Degree (N : ℕ) : Type 0 where
 -- The same as a test.
 abbrev pub isDegree : ℕ → Bool
 isDegree N = eqb (ones N) 1 && leb N 1024
+
+-- The exponent of a degree, which is a power of two.
+abbrev pub log : ℕ → ℕ
+log N = trailingZeros 64 N
 
 -- The coefficients of a list of words.
 abbrev pub coefficients : List ℕ → ℕ → ℕ

@@ -12,7 +12,7 @@ abbrev pub BothSigns : ℕ → List ℕ → ℕ → List ℕ → Type 0
 BothSigns n p m table = (i : ℕ) → i < m
     → (coefficients table i ≡ sub 0 (coefficients p i)) × (coefficients table (n + i) ≡ coefficients p i)
 
--- What the first m coefficients of y add to coefficient k of the product: y_i times word k of X^i·p, which is word n - i + k of
--- the table.
+-- What the last m coefficients of y add to coefficient k of the product: y_i, for i = n - (j + 1), times word k of X^i·p, which is
+-- word n - i + k of the table.
 unfoldable pub rowSum : ℕ → List ℕ → List ℕ → ℕ → ℕ → ℕ
-rowSum n y table m k = sum m (λ i. coefficients y i * coefficients table (n - i + k))
+rowSum n y table m k = sum m (λ j. coefficients y (n - (j + 1)) * coefficients table (j + 1 + k))

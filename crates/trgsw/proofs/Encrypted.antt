@@ -5,7 +5,7 @@ use mathlib.Core.Logic.{_≢_}
 use mathlib.Core.Bool.{cond}
 use mathlib.Core.List.{List}
 use Prim.Native.Nat.{ℕ, zero, suc, _+_, _*_, _/_, _^_, _≤_, _<_}
-use native.Mathlib.Nat.{add-zero, zero-add, zero-lt-suc, mul-zero, le-of-eq, le-trans, div-lt-iff-lt-mul}
+use native.Mathlib.Nat.{add-zero, zero-add, mul-zero, le-of-eq, le-trans}
 use native.Mathlib.Decide.{ℕ-discrete}
 use native.Mathlib.Omega.{arith}
 use lib.Arith.{digits-div, digits-lt}
@@ -22,6 +22,7 @@ use Rattle.ring.specs.Polynomial.{Agree}
 use Rattle.ring.proofs.Poly.{Poly, _⊕_, _⊙_, nil, psum-only, mul, mul-linear}
 use Rattle.ring.proofs.Terms.{unit, mul-unit}
 use Rattle.ring.proofs.Close.{Close}
+use Rattle.row_terms.proofs.RowLaws.{component-lt}
 use Rattle.trlwe.specs.Sample.{part, phase, encryption}
 use Rattle.trlwe.proofs.Phases.{encryption-phase}
 use Rattle.trgsw.specs.Block.{row, scaledStep, encryptedRow, encryptedBlock, rowPhase, Holds}
@@ -119,11 +120,6 @@ block-row : (N k g L m : ℕ) (K masks errors : List ℕ) (r : ℕ) → r < suc 
     → row N k r (encryptedBlock N k g L m K masks errors) ≡ encryptedRow N k g L m K (chunk (k * N) r masks) (chunk N r errors) r
 unfolding encryptedBlock
 block-row N k g L m K masks errors r l = chunk-joined (suc k * L) (suc k * N) _ (λ c lc. length-row N k g L m K _ _ c) r l
-
--- The polynomial that a row is for is a mask or the body.
-pub component-lt : (k L r : ℕ) → r < suc k * L → r / L < suc k
-component-lt k zero r l = absurd (omega (arith, mul-zero (suc k)))
-component-lt k (suc L) r l = div-lt-iff-lt-mul (zero-lt-suc L) .1 l
 
 -- A block that encrypts m with errors of magnitudes up to A holds m within A.
 pub encrypted-holds : (N k g L m A : ℕ) (K masks errors : List ℕ) → m ≤ 1 → length masks ≡ suc k * L * (k * N)

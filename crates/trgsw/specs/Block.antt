@@ -4,29 +4,15 @@
 -- Assumes nothing.
 use mathlib.Core.Bool.{cond}
 use mathlib.Core.List.{List}
-use Prim.Native.Nat.{ℕ, suc, _*_, _/_, _%_, _≤_, _<_}
+use Prim.Native.Nat.{ℕ, suc, _*_, _≤_, _<_}
 use lib.Dec.{eqb, ltb}
 use lib.ListN.{getD}
 use Rattle.torus.specs.Sum.{tabulate, joined, chunk}
 use Rattle.torus.specs.Word.{add, sub, mul, distance}
 use Rattle.gadget.specs.Digits.{step}
 use Rattle.trlwe.specs.Sample.{part, phase, encryption}
-
--- The words of a block.
-abbrev pub blockSize : (N k L : ℕ) → ℕ
-blockSize N k L = suc k * L * (suc k * N)
-
--- Row r of a block: a sample.
-abbrev pub row : (N k r : ℕ) (block : List ℕ) → List ℕ
-row N k r block = chunk (suc k * N) r block
-
--- The polynomial of a sample that row r is for: a mask, or the body where this is k.
-abbrev pub component : (L r : ℕ) → ℕ
-component L r = r / L
-
--- The number j, from 1 to L, of row r among the rows for that polynomial.
-abbrev pub place : (L r : ℕ) → ℕ
-place L r = suc (r % L)
+-- The words of a block, its row r, the polynomial that a row is for, and its number among the rows for that polynomial.
+pub use Rattle.row_terms.specs.Rows.{blockSize, row, component, place}
 
 -- m·h_j for row r.
 abbrev pub scaledStep : (g L m r : ℕ) → ℕ

@@ -10,12 +10,9 @@ use Rattle.torus.specs.Word.{add, sub}
 use Rattle.gadget.specs.Digits.{Lawful, half, precision, digit}
 use Rattle.ring.specs.Polynomial.{product}
 use Rattle.trlwe.specs.Sample.{part, polynomials}
-use Rattle.trgsw.specs.Block.{row, component, place}
-
--- Coefficient i of the digit polynomial of the sample x that goes with row r: "mask digits with the first L rows, body digits
--- with the last L".
-abbrev pub rowDigits : (N g L : ℕ) (x : List ℕ) (r i : ℕ) → ℕ
-rowDigits N g L x r i = digit g L (part N x (component L r) i) (place L r)
+use Rattle.trgsw.specs.Block.{row}
+-- The digit polynomial of a sample that goes with row r.
+pub use Rattle.row_terms.specs.Rows.{rowDigits}
 
 -- Coefficient i of polynomial c of the external product: "the sum over rows of digit polynomial times row".
 unfoldable pub external : (N k g L : ℕ) (block x : List ℕ) (c i : ℕ) → ℕ

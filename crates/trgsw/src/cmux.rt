@@ -50,6 +50,50 @@ fn cmux_in(
     cmux_in_place(out, room, block, k, n, g, l);
 }
 
+// The same with one mask and room of its own. Room is cleared before it is used, so that small degrees have a small one.
+fn cmux_roomed(
+    out: &mut [u8],
+    block: &[u8],
+    sample0: &[u8],
+    sample1: &[u8],
+    n: usize,
+    g: u32,
+    l: u32,
+)
+    requires { ⌜ Degree n × Lawful g l × (length (now out) ≡ 4 * (2 * n)) × (length (now block) ≡ 4 * Block.blockSize n 1 l)
+        × (length (now sample0) ≡ 4 * (2 * n)) × (length (now sample1) ≡ 4 * (2 * n)) ⌝ }
+    ensures { λ _. ⌜ words (now (out .exit)) ≡ External.cmuxSample n 1 g l
+        (words (now (block .entry))) (words (now (sample0 .entry))) (words (now (sample1 .entry))) ⌝ }
+{
+    if n <= 64 {
+        let mut room = [0u8; 512];
+        cmux_in(
+            out,
+            &mut room[0..8 * n],
+            block,
+            sample0,
+            sample1,
+            1,
+            n,
+            g,
+            l,
+        );
+        return;
+    }
+    let mut room = [0u8; 8192];
+    cmux_in(
+        out,
+        &mut room[0..8 * n],
+        block,
+        sample0,
+        sample1,
+        1,
+        n,
+        g,
+        l,
+    );
+}
+
 // The greater of two numbers.
 fn greater(a: u64, b: u64) -> u64
     ensures { λ r. ⌜ r ≡ max a b ⌝ }
@@ -138,18 +182,6 @@ pub fn cmux(
     if fault != 0 {
         return fault;
     }
-    let degree = n as usize;
-    let mut room = [0u8; 8192];
-    cmux_in(
-        out,
-        &mut room[0..8 * degree],
-        block,
-        sample0,
-        sample1,
-        1,
-        degree,
-        g as u32,
-        l as u32,
-    );
+    cmux_roomed(out, block, sample0, sample1, n as usize, g as u32, l as u32);
     0
 }

@@ -1,87 +1,19 @@
 // The external product of a block with a sample.
 use crate::charge;
-use crate::place;
 use answers::Answer;
 use answers::Ledger;
 ghost use mathlib.Core.Path.{_≡_};
-ghost use Prim.Native.Nat.{ℕ, suc, _*_, _^_, _≤_, _<_};
+ghost use Prim.Native.Nat.{suc, _*_};
 ghost use lib.ListN.{length};
-ghost use Rattle.torus.specs.Sum.{tabulate, joined, chunk};
 ghost use Rattle.torus.specs.Word as W;
 ghost use Rattle.torus.specs.Bytes.{words};
 ghost use Rattle.gadget.specs.Digits.{Lawful};
-ghost use Rattle.ring.specs.Polynomial.{Degree, coefficients, addProduct};
+ghost use Rattle.ring.specs.Polynomial.{Degree};
 ghost use Rattle.answers.specs.Answers.{number};
 ghost use Rattle.trlwe.specs.Sample.{part, polynomials};
 ghost use Rattle.trgsw.specs.Block as Block;
 ghost use Rattle.trgsw.specs.External as External;
 ghost use Rattle.trgsw.specs.Calls as Calls;
-
-// To each of the k + 1 polynomials of out, the product of small and the same polynomial of row.
-fn add_row(out: &mut [u8], small: &[u8], row: &[u8], k: usize, n: usize)
-    requires { ⌜ Degree n × (length (now out) ≡ 4 * (suc k * n)) × (length (now small) ≡ 4 * n)
-        × (length (now row) ≡ 4 * (suc k * n))
-        × ((i : ℕ) → i < n → W.magnitude (coefficients (words (now small)) i) ≤ 2 ^ 15) ⌝ }
-    ensures { λ _. ⌜ words (now (out .exit)) ≡ joined (suc k) (λ c. addProduct n
-        (chunk n c (words (now (out .entry)))) (words (now (small .entry))) (chunk n c (words (now (row .entry))))) ⌝ }
-{
-    let size = 4 * n;
-    let mut c = 0;
-    while c <= k {
-        let at = c * size;
-        ring::add_product(&mut out[at..at + size], small, &row[at..at + size], n);
-        c += 1;
-    }
-}
-
-// To out, the term of row r: the digit polynomial of x that goes with it, which is made in room, times the row.
-fn add_term(
-    out: &mut [u8],
-    room: &mut [u8],
-    block: &[u8],
-    x: &[u8],
-    k: usize,
-    n: usize,
-    g: u32,
-    l: u32,
-    r: usize,
-)
-    requires { ⌜ Degree n × Lawful g l × (r < suc k * l) × (length (now out) ≡ 4 * (suc k * n)) × (length (now room) ≡ 4 * n)
-        × (length (now block) ≡ 4 * Block.blockSize n k l) × (length (now x) ≡ 4 * (suc k * n)) ⌝ }
-    ensures { λ _. ⌜ words (now (out .exit)) ≡ joined (suc k) (λ c. addProduct n (chunk n c (words (now (out .entry))))
-        (tabulate n (External.rowDigits n g l (words (now (x .entry))) r)) (chunk n c (Block.row n k r (words (now (block .entry)))))) ⌝ }
-{
-    let size = 4 * n;
-    let from = r / l as usize * size;
-    gadget::write_digits(room, &x[from..from + size], n, g, l, place(r, l));
-    let row_size = (k + 1) * size;
-    let at = r * row_size;
-    add_row(out, room, &block[at..at + row_size], k, n);
-}
-
-// To out, the external product of the block with x: the terms of all rows. room has n words.
-fn add_external_in(
-    out: &mut [u8],
-    room: &mut [u8],
-    block: &[u8],
-    x: &[u8],
-    k: usize,
-    n: usize,
-    g: u32,
-    l: u32,
-)
-    requires { ⌜ Degree n × Lawful g l × (length (now out) ≡ 4 * (suc k * n)) × (length (now room) ≡ 4 * n)
-        × (length (now block) ≡ 4 * Block.blockSize n k l) × (length (now x) ≡ 4 * (suc k * n)) ⌝ }
-    ensures { λ _. ⌜ words (now (out .exit)) ≡ polynomials n (suc k) (λ c i. W.add (part n (words (now (out .entry))) c i)
-        (External.external n k g l (words (now (block .entry))) (words (now (x .entry))) c i)) ⌝ }
-{
-    let rows = (k + 1) * l as usize;
-    let mut r = 0;
-    while r < rows {
-        add_term(out, room, block, x, k, n, g, l, r);
-        r += 1;
-    }
-}
 
 // To out, the external product of the block with x.
 pub fn add_external(out: &mut [u8], block: &[u8], x: &[u8], k: usize, n: usize, g: u32, l: u32)
@@ -90,8 +22,7 @@ pub fn add_external(out: &mut [u8], block: &[u8], x: &[u8], k: usize, n: usize, 
     ensures { λ _. ⌜ words (now (out .exit)) ≡ polynomials n (suc k) (λ c i. W.add (part n (words (now (out .entry))) c i)
         (External.external n k g l (words (now (block .entry))) (words (now (x .entry))) c i)) ⌝ }
 {
-    let mut room = [0u8; 4096];
-    add_external_in(out, &mut room[0..4 * n], block, x, k, n, g, l);
+    row_products::add_rows(out, block, x, k, n, g, l);
 }
 
 // What external_product answers.

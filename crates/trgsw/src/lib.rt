@@ -5,17 +5,7 @@ pub mod external;
 pub mod selector;
 
 ghost use mathlib.Core.Path.{_≡_};
-ghost use Prim.Native.Nat.{_≤_};
-ghost use Rattle.trgsw.specs.Block as Block;
 ghost use Rattle.trgsw.specs.External as External;
-
-// The number j, from 1 to l, of row r among the rows for its polynomial.
-fn place(r: usize, l: u32) -> u32
-    requires { ⌜ (1 ≤ l) × (l ≤ 32) ⌝ }
-    ensures { λ j. ⌜ (j ≡ Block.place l r) × (j ≤ l) ⌝ }
-{
-    (r % l as usize) as u32 + 1
-}
 
 // A CMux's charge: what it adds to the noise, with a block within a under a key of at most w ones.
 pub fn charge(n: u64, k: u64, g: u32, l: u32, w: u64, a: u64) -> u64

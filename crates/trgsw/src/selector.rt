@@ -1,7 +1,7 @@
 // Encryption of a selector bit as a block.
-use crate::place;
 use answers::Answer;
 use answers::Ledger;
+use row_terms::place;
 ghost use mathlib.Core.Path.{_≡_};
 ghost use Prim.Native.Nat.{suc, _+_, _*_, _/_, _≤_, _<_};
 ghost use lib.ListN.{length, getD};

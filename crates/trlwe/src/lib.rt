@@ -44,7 +44,7 @@ fn add_masked(out: &mut [u8], key: &[u8], a: &[u8], k: usize, n: usize)
     let mut at = 0;
     let mut c = 0;
     while c < k {
-        ring::add_product(out, &key[at..at + size], &a[at..at + size], n);
+        rns::add_product(out, &key[at..at + size], &a[at..at + size], n);
         at += size;
         c += 1;
     }

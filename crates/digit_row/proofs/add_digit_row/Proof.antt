@@ -37,8 +37,8 @@ write-digits-requires c κs =
     let f = fit (c .before) in
     (f .lawful, f .some, f .within, f .digits-length, omega (arith, f .x-length, f .row-length))
 
-add-product-requires : tie.Need-add-product-requires
-add-product-requires c κs =
+add-sparse-product-requires : tie.Need-add-sparse-product-requires
+add-sparse-product-requires c κs =
     let accepted = c .before .before .before .before .before .before in
     let f = fit accepted in
     let s = accepted .before .before .before .before .before .before .args in
@@ -64,7 +64,7 @@ returns-2 c =
     record {
       number-is = sym (accepted .if1 .left) ∙ accepted .before .refusal .ensures;
       digits-are = digits-bytes _ _ _ _ _ _ (written .write-digits .ensures) (omega (arith, f .digits-length)) (λ i. c .before .before .before .before .before .slice-known3 .given i .fits);
-      out-is = sum-bytes _ _ _ _ _ _ (written .write-digits .ensures) _ _ _ (c .before .before .add-product .ensures) (omega (arith, f .out-length)) (λ i. c .slice-known4 .given i .fits);
+      out-is = sum-bytes _ _ _ _ _ _ (written .write-digits .ensures) _ _ _ (c .before .before .add-sparse-product .ensures) (omega (arith, f .out-length)) (λ i. c .slice-known4 .given i .fits);
     }
 
 pub add-digit-row-spec : {M : Type 1} → statement M
@@ -77,7 +77,7 @@ add-digit-row-spec =
     cast-write-digits-2
     cast-write-digits-3
     write-digits-requires
-    add-product-requires
+    add-sparse-product-requires
     same-length
     same-length-2
     returns-2)

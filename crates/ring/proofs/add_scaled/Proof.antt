@@ -11,16 +11,16 @@ use Rattle.ring.proofs.add_scaled.Statement.{statement}
 use Rattle.ring.proofs.add_scaled.Tie as tie
 
 abbrev Inv-loop : tie.InvT-loop
-Inv-loop acc₀ d table from n k₀ acc k = (k ≤ n) × (length acc ≡ length acc₀) × (acc ≡ filled k (λ i. add (getD acc₀ i 0) (mul d (getD table (from + i) 0))) acc₀)
+Inv-loop acc₀ d table from n skip k₀ acc k = (k ≤ n) × (length acc ≡ length acc₀) × (acc ≡ filled k (λ i. add (getD acc₀ i 0) (mul d (getD table (from + i) 0))) acc₀)
 
 abbrev μ-loop : tie.MeasureT-loop
-μ-loop acc₀ d table from n k₀ acc k = n - k
+μ-loop acc₀ d table from n skip k₀ acc k = n - k
 
 returns : tie.Need-returns Inv-loop μ-loop
 returns c =
-    let s = c .before .before .before .args in
-    let words = c .before .before .slice-known in
-    rw (c .if1 .taken) (add-none (s .n) (s .acc .now) (λ i. getD (s .table .now) (s .from + i) 0) (λ i. words .given i .fits))
+    let s = c .before .before .before .before .args in
+    let words = c .before .before .before .slice-known in
+    rw (c .if2 .taken) (add-none (s .n) (s .acc .now) (λ i. getD (s .table .now) (s .from + i) 0) (λ i. words .given i .fits))
 
 loop-holds : tie.Need-loop-holds Inv-loop μ-loop
 loop-holds c = (omega arith, refl, filled-none _ _)

@@ -37,31 +37,18 @@ returns c =
     let e = answered (c .before) in
     (e, after-refused _ _ _ (λ z. c .if1 .taken (e ∙ z)))
 
-mul-cmux-in : tie.Need-mul-cmux-in
-mul-cmux-in c = omega (arith, fit (c .before) .degree .most)
+cast-cmux-roomed : tie.Need-cast-cmux-roomed
+cast-cmux-roomed c = record { fits = omega (arith, fit (c .before) .lawful .high) }
 
-sub-cmux-in : tie.Need-sub-cmux-in
-sub-cmux-in c = search needs
+cast-cmux-roomed-2 : tie.Need-cast-cmux-roomed-2
+cast-cmux-roomed-2 c = record { fits = omega (arith, count-le _ _ (fit (c .before) .lawful)) }
 
-part-room-start : tie.Need-part-room-start
-part-room-start c = search needs
-
-part-room-end : tie.Need-part-room-end
-part-room-end c = omega (arith, fit (c .before) .degree .most)
-
-cast-cmux-in : tie.Need-cast-cmux-in
-cast-cmux-in c = record { fits = omega (arith, fit (c .before .before) .lawful .high) }
-
-cast-cmux-in-2 : tie.Need-cast-cmux-in-2
-cast-cmux-in-2 c = record { fits = omega (arith, count-le _ _ (fit (c .before .before) .lawful)) }
-
-cmux-in-requires : tie.Need-cmux-in-requires
-cmux-in-requires c κs =
-    let f = fit (c .before .before) in (
+cmux-roomed-requires : tie.Need-cmux-roomed-requires
+cmux-roomed-requires c κs =
+    let f = fit (c .before) in (
       f .degree,
       f .lawful,
       omega (arith, f .out-length),
-      omega (arith, f .degree .most),
       omega (arith, f .block-length),
       omega (arith, f .sample₀-length),
       omega (arith, f .sample₁-length),
@@ -73,10 +60,9 @@ same-length-2 c = search needs
 returns-2 : tie.Need-returns-2
 unfolding Calls.cmuxOut
 returns-2 c =
-    let e = sym (answered (c .before .before .before .before .before .before .before)) ∙ c .before .before .before .before .before .before .if1 .left in
-    let f = fit (c .before .before .before .before .before .before) in
-    let n = 2 * c .before .before .before .before .before .before .before .before .before .before .before .before .before .before .args .n in
-    (sym e, after-accepted _ n _ _ _ e (omega (arith, f .out-length)) (λ i. c .before .slice-known2 .given i .fits) (c .before .before .before .cmux-in .ensures))
+    let e = sym (answered (c .before .before .before .before .before)) ∙ c .before .before .before .before .if1 .left in
+    let f = fit (c .before .before .before .before) in
+    (sym e, after-accepted _ (2 * c .before .before .before .before .before .before .before .before .before .before .before .before .args .n) _ _ _ e (omega (arith, f .out-length)) (λ i. c .slice-known2 .given i .fits) (c .before .before .cmux-roomed .ensures))
 
 pub cmux-spec : {M : Type 1} → statement M
 cmux-spec =
@@ -86,12 +72,8 @@ cmux-spec =
     number-requires
     same-length
     returns
-    mul-cmux-in
-    sub-cmux-in
-    part-room-start
-    part-room-end
-    cast-cmux-in
-    cast-cmux-in-2
-    cmux-in-requires
+    cast-cmux-roomed
+    cast-cmux-roomed-2
+    cmux-roomed-requires
     same-length-2
     returns-2)

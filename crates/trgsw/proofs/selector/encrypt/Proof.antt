@@ -12,7 +12,7 @@ use Rattle.torus.proofs.Joined.{Each, Written, written-none, written-more, writ
 use Rattle.ring.proofs.Degrees.{degree-pos}
 use Rattle.trgsw.specs.Block.{encryptedRow, encryptedBlock}
 use Rattle.trgsw.proofs.Encrypted.{length-row}
-use Rattle.trgsw.proofs.Accumulated.{rows-fit}
+use Rattle.row_terms.proofs.RowLaws.{rows-fit}
 use borrow.Author.Needs.{needs}
 use Rattle.trgsw.proofs.selector.encrypt.Statement.{statement}
 use Rattle.trgsw.proofs.selector.encrypt.Tie as tie

@@ -11,7 +11,7 @@ use Rattle.torus.proofs.Joined.{chunk-inside}
 use Rattle.ring.proofs.Degrees.{degree-pos}
 use Rattle.trlwe.specs.Sample.{encryption}
 use Rattle.trgsw.specs.Block.{gadgetRow, encryptedRow}
-use Rattle.trgsw.proofs.Encrypted.{component-lt}
+use Rattle.row_terms.proofs.RowLaws.{component-lt}
 use borrow.Author.Needs.{needs}
 use Rattle.trgsw.proofs.selector.write_row.Statement.{statement}
 use Rattle.trgsw.proofs.selector.write_row.Tie as tie

@@ -1,0 +1,4 @@
+pub mod SameLaws
+pub mod ShoupLaws
+pub mod StoredLaws
+pub mod Passes

@@ -1,0 +1,24 @@
+-- `twiddles::write_quotients` meets its contract. Assumes nothing.
+use borrow.Author.Needs.{needs}
+use mathlib.Core.Path.{_∙_}
+use Rattle.twiddles.proofs.write_quotients.Statement.{statement}
+use Rattle.twiddles.proofs.write_quotients.Tie as tie
+
+quotients-requires : tie.Need-quotients-requires
+quotients-requires c κs = search needs
+
+slice-aggregate-copy : tie.Need-slice-aggregate-copy
+slice-aggregate-copy c = search needs
+
+copy-requires : tie.Need-copy-requires
+copy-requires c κs = search needs
+
+same-length : tie.Need-same-length
+same-length c = search needs
+
+returns : tie.Need-returns
+returns c = c .before .before .copy .ensures ∙ c .before .before .before .before .before .quotients .ensures
+
+pub write-quotients-spec : {M : Type 1} → statement M
+write-quotients-spec =
+    tie.close (tie.spec quotients-requires slice-aggregate-copy copy-requires same-length returns)
