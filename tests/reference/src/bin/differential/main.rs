@@ -2,6 +2,7 @@
 //!
 //!     differential [--calls COUNT] [--seed SEED] [--only CASE]
 //!     differential accuracy [--jobs COUNT] [--seed SEED] [--only JOB]
+//!     differential extremes [--seed SEED] [--only CASE]
 
 #![deny(warnings)]
 
@@ -11,6 +12,7 @@ mod compare;
 mod crash;
 mod damage;
 mod exports;
+mod extremes;
 mod lawful;
 mod lent;
 mod library;
@@ -20,7 +22,8 @@ mod parameters;
 mod random;
 mod tally;
 
-use options::Options;
+use arguments::Arguments;
+use options::{Options, Part};
 use std::process::ExitCode;
 use std::time::Instant;
 
@@ -37,11 +40,13 @@ fn main() -> ExitCode {
     };
     println!("seed {}", options.seed);
     crash::watch(options.seed);
-    let passed = match (options.accuracy, options.only) {
-        (true, Some(job)) => accuracy::one_job(&options, job),
-        (true, None) => accuracy::all_jobs(&options),
-        (false, Some(case)) => one_case(&options, case),
-        (false, None) => all_cases(&options),
+    let passed = match (options.part, options.only) {
+        (Part::Calls, Some(case)) => one_case(compare::arguments_of(options.seed, case), case),
+        (Part::Calls, None) => all_cases(&options),
+        (Part::Accuracy, Some(job)) => accuracy::one_job(&options, job),
+        (Part::Accuracy, None) => accuracy::all_jobs(&options),
+        (Part::Extremes, Some(case)) => one_case(extremes::arguments_of(options.seed, case), case),
+        (Part::Extremes, None) => extremes::all_cases(&options),
     };
     if passed {
         ExitCode::SUCCESS
@@ -50,8 +55,7 @@ fn main() -> ExitCode {
     }
 }
 
-fn one_case(options: &Options, case: u64) -> bool {
-    let mut arguments = compare::arguments_of(options.seed, case);
+fn one_case(mut arguments: Arguments, case: u64) -> bool {
     arguments.shown = usize::MAX;
     let result = compare::compare(&arguments, case);
     println!("case {case}: {arguments}");
