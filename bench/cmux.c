@@ -27,14 +27,14 @@ static void in_c(const void *with)
 }
 
 #ifdef FFT
-static void transforms(const void *with) { fft_cmux(with, 0, sample0, sample1, out); }
+static void fourier(const void *with) { fft_cmux(with, 0, sample0, sample1, out); }
 #endif
 
 static const struct variant variants[] = {
     {LIBRARY, library, NULL},
     SCHOOLBOOKS(in_c),
 #ifdef FFT
-    {TRANSFORMS, transforms, NULL},
+    {FOURIER, fourier, NULL},
 #endif
 };
 

@@ -1,5 +1,5 @@
 /*
- * How times grow with d, N and L: the library's, and the ratio to C at every size.
+ * How times grow with d, N, L and the gadget: the library's, and the ratios to C at every size.
  * Selectors and samples are random words. That is all the same to the times, and the calls test the size of an amplitude alone.
  */
 #include "cikenuma.h"
@@ -11,7 +11,15 @@
 #include <stdlib.h>
 #include <string.h>
 
-enum { ROUNDS = 15, MOST_SIZES = MOST_VARIANTS / 2, MOST_L = 4, TREE_N = 128, SMALL_D = 3 };
+/* At each size: the library, and C without and with zeros skipped. */
+enum { BESIDE = 3 };
+enum { ROUNDS = 15, MOST_SIZES = MOST_VARIANTS / BESIDE, MOST_L = 32, TREE_N = 128, SMALL_D = 3 };
+
+/*
+ * Where the library goes by transforms, if at least 64 words of a sample are not 0, as in every gate here; and how many rows their
+ * sums take at most before they go back.
+ */
+enum { LEAST_BY_TRANSFORMS = 128, ROWS_OF_A_BATCH = 16 };
 
 /*
  * As many classes as the noise bounds allow, so that few entries have the same class at the same place, and few digits are
@@ -19,79 +27,131 @@ enum { ROUNDS = 15, MOST_SIZES = MOST_VARIANTS / 2, MOST_L = 4, TREE_N = 128, SM
  */
 enum { CLASSES = 16 };
 
+/* d is 0 for a CMux by itself. */
 struct size {
-    size_t n, l, d;
+    size_t n, g, l, d;
 };
 
 /* A series of sizes, the smallest first, and the call that is measured at each of them. */
 struct series {
     const char *file;
     void (*library)(const void *size);
-    void (*in_c)(const void *size);
-    /* The number that grows. */
-    size_t (*number)(const struct size *size);
+    void (*plain)(const void *size);
+    void (*skipping)(const void *size);
+    /* Prints what is different from size to size. */
+    void (*print_size)(FILE *file, const struct size *size);
     size_t count;
     struct size sizes[MOST_SIZES];
 };
 
-static uint32_t blocks[4 * MOST_L * N * D], amplitudes[D], classes[TREE_N << D], sample0[2 * N], sample1[2 * N], out[2 * N];
+/* The largest block alone takes as many words as the blocks of any lookup here. */
+static uint32_t blocks[4 * MOST_L * N], amplitudes[D], classes[TREE_N << D], sample0[2 * N], sample1[2 * N], out[2 * N];
 static uint32_t work[2 * N * (D + 1)];
 
 static void library_cmux(const void *with)
 {
     const struct size *size = with;
     size_t n = size->n;
-    if (cikenuma_cmux(n, G, size->l, 1, 1, 1, SLICE(blocks, 4 * size->l * n), SLICE(sample0, 2 * n), SLICE(sample1, 2 * n),
+    if (cikenuma_cmux(n, size->g, size->l, 1, 1, 1, SLICE(blocks, 4 * size->l * n), SLICE(sample0, 2 * n), SLICE(sample1, 2 * n),
                       SLICE(out, 2 * n)) != 0)
         exit(1);
 }
 
-/* The C variants have the zeros skipped, as the library has them. */
-static void join(const void *with, size_t selector, const uint32_t *first, const uint32_t *second, uint32_t *result)
+static void join(const struct schoolbook *c, const struct size *size, size_t selector, const uint32_t *first,
+                 const uint32_t *second, uint32_t *result)
 {
     static uint32_t room[3 * N];
-    const struct size *size = with;
-    skipping.cmux(size->n, G, (uint32_t)size->l, blocks + selector * 4 * size->l * size->n, first, second, room, result);
+    const uint32_t *block = blocks + selector * 4 * size->l * size->n;
+    c->cmux(size->n, (uint32_t)size->g, (uint32_t)size->l, block, first, second, room, result);
 }
 
-static void c_cmux(const void *with) { join(with, 0, sample0, sample1, out); }
+static void join_plain(const void *with, size_t selector, const uint32_t *first, const uint32_t *second, uint32_t *result)
+{
+    join(&plain, with, selector, first, second, result);
+}
+
+static void join_skipping(const void *with, size_t selector, const uint32_t *first, const uint32_t *second, uint32_t *result)
+{
+    join(&skipping, with, selector, first, second, result);
+}
+
+static void plain_cmux(const void *with) { join_plain(with, 0, sample0, sample1, out); }
+static void skipping_cmux(const void *with) { join_skipping(with, 0, sample0, sample1, out); }
 
 static void library_lookup(const void *with)
 {
     const struct size *size = with;
     size_t n = size->n, d = size->d;
-    if (cikenuma_lookup(n, G, size->l, CLASSES, n, d, SLICE(blocks, d * 4 * size->l * n), SLICE(amplitudes, d),
+    if (cikenuma_lookup(n, size->g, size->l, CLASSES, n, d, SLICE(blocks, d * 4 * size->l * n), SLICE(amplitudes, d),
                         SLICE(classes, n << d), SLICE(out, 2 * n), SLICE(work, 2 * n * (d + 1))) != 0)
         exit(1);
 }
 
-static void c_lookup(const void *with)
+static void c_lookup(const struct size *size, gate *joining)
 {
-    const struct size *size = with;
     struct table table = {size->n, size->n, CLASSES, classes};
-    join_entries(&table, join, size, size->d, 0, out);
+    join_entries(&table, joining, size, size->d, 0, out);
 }
 
-static size_t d_of(const struct size *size) { return size->d; }
-static size_t n_of(const struct size *size) { return size->n; }
-static size_t l_of(const struct size *size) { return size->l; }
+static void plain_lookup(const void *with) { c_lookup(with, join_plain); }
+static void skipping_lookup(const void *with) { c_lookup(with, join_skipping); }
 
-/* Products of a lookup, but for a factor 4; a CMux is one with d = 1. */
-static double work_of(const struct size *size)
-{
-    return (double)((((size_t)1 << size->d) - 1) * size->l * size->n * size->n);
-}
+static void print_d(FILE *file, const struct size *size) { fprintf(file, "%zu", size->d); }
+static void print_n(FILE *file, const struct size *size) { fprintf(file, "%zu", size->n); }
+static void print_l(FILE *file, const struct size *size) { fprintf(file, "%zu", size->l); }
+static void print_gadget(FILE *file, const struct size *size) { fprintf(file, "%zu, %zu", size->g, size->l); }
+
+#define CMUX library_cmux, plain_cmux, skipping_cmux
+#define LOOKUP library_lookup, plain_lookup, skipping_lookup
 
 static const struct series all[] = {
-    {"lookup-d.md", library_lookup, c_lookup, d_of, 7,
-     {{TREE_N, L, 4}, {TREE_N, L, 5}, {TREE_N, L, 6}, {TREE_N, L, 7}, {TREE_N, L, 8}, {TREE_N, L, 9}, {TREE_N, L, 10}}},
-    {"lookup-N.md", library_lookup, c_lookup, n_of, 5,
-     {{64, L, SMALL_D}, {128, L, SMALL_D}, {256, L, SMALL_D}, {512, L, SMALL_D}, {1024, L, SMALL_D}}},
-    {"lookup-L.md", library_lookup, c_lookup, l_of, 3, {{512, 2, 5}, {512, 3, 5}, {512, 4, 5}}},
-    {"cmux-N.md", library_cmux, c_cmux, n_of, 8,
-     {{8, L, 1}, {16, L, 1}, {32, L, 1}, {64, L, 1}, {128, L, 1}, {256, L, 1}, {512, L, 1}, {1024, L, 1}}},
-    {"cmux-L.md", library_cmux, c_cmux, l_of, 4, {{N, 1, 1}, {N, 2, 1}, {N, 3, 1}, {N, 4, 1}}},
+    {"lookup-d.md", LOOKUP, print_d, 7,
+     {{TREE_N, G, L, 4}, {TREE_N, G, L, 5}, {TREE_N, G, L, 6}, {TREE_N, G, L, 7}, {TREE_N, G, L, 8}, {TREE_N, G, L, 9},
+      {TREE_N, G, L, 10}}},
+    {"lookup-N.md", LOOKUP, print_n, 7,
+     {{16, G, L, SMALL_D}, {32, G, L, SMALL_D}, {64, G, L, SMALL_D}, {128, G, L, SMALL_D}, {256, G, L, SMALL_D},
+      {512, G, L, SMALL_D}, {1024, G, L, SMALL_D}}},
+    {"lookup-L.md", LOOKUP, print_l, 3, {{512, G, 2, 5}, {512, G, 3, 5}, {512, G, 4, 5}}},
+    {"cmux-N.md", CMUX, print_n, 11,
+     {{1, G, L, 0}, {2, G, L, 0}, {4, G, L, 0}, {8, G, L, 0}, {16, G, L, 0}, {32, G, L, 0}, {64, G, L, 0}, {128, G, L, 0},
+      {256, G, L, 0}, {512, G, L, 0}, {1024, G, L, 0}}},
+    {"cmux-L.md", CMUX, print_l, 4, {{N, G, 1, 0}, {N, G, 2, 0}, {N, G, 3, 0}, {N, G, 4, 0}}},
+    {"cmux-gadget.md", CMUX, print_gadget, 7,
+     {{N, 16, 1, 0}, {N, 16, 2, 0}, {N, 8, 2, 0}, {N, 8, 4, 0}, {N, 4, 8, 0}, {N, 2, 16, 0}, {N, 1, 32, 0}}},
 };
+
+static int by_transforms(const struct size *size) { return size->n >= LEAST_BY_TRANSFORMS; }
+
+/*
+ * What one gate takes in the library: products of polynomials by schoolbook, or transforms modulo each prime, that is one for each
+ * digit polynomial, two for its row, and two back for each batch of rows.
+ */
+static size_t whole_gate(const struct size *size)
+{
+    size_t rows = 2 * size->l, batches = (rows + ROWS_OF_A_BATCH - 1) / ROWS_OF_A_BATCH;
+    return by_transforms(size) ? 3 * rows + 2 * batches : 2 * rows;
+}
+
+/* The same of a gate that joins two entries: their difference has mask 0, and classes take one digit. The rest is skipped. */
+static size_t entries_gate(const struct size *size) { return by_transforms(size) ? 3 + 2 : 2; }
+
+static size_t log2_of(size_t n) { return n < 2 ? 0 : 1 + log2_of(n / 2); }
+
+/* The rule: products of words, or butterflies modulo both primes, of which a transform has N/2 * log2(N) modulo each. */
+static double steps_of(const struct size *size)
+{
+    size_t entries = (size_t)1 << size->d >> 1, n = size->n;
+    size_t gates = entries == 0 ? whole_gate(size) : entries * entries_gate(size) + (entries - 1) * whole_gate(size);
+    return (double)(gates * n * (by_transforms(size) ? log2_of(n) : n));
+}
+
+/* The last size of a series that the library takes the same way as this one. */
+static size_t last_alike(const struct series *series, size_t i)
+{
+    while (i + 1 < series->count && by_transforms(series->sizes + i + 1) == by_transforms(series->sizes + i))
+        i++;
+    return i;
+}
 
 static void prepare(void)
 {
@@ -105,40 +165,64 @@ static void prepare(void)
         amplitudes[i] = 1;
 }
 
-/* At every size the library's words must be those of C. */
+static void run(void (*call)(const void *size), const struct size *size)
+{
+    memset(out, 0, sizeof out);
+    call(size);
+}
+
+/* At every size the library's words, and those of C with zeros skipped, must be those of C. */
 static void compare(const struct series *series)
 {
     static uint32_t want[2 * N];
     for (size_t i = 0; i < series->count; i++) {
-        memset(out, 0, sizeof out);
-        series->in_c(series->sizes + i);
+        const struct size *size = series->sizes + i;
+        run(series->plain, size);
         memcpy(want, out, sizeof out);
-        memset(out, 0, sizeof out);
-        series->library(series->sizes + i);
-        if (memcmp(want, out, sizeof out) != 0) {
-            fprintf(stderr, "%s: a wrong result at size %zu\n", series->file, series->number(series->sizes + i));
+        run(series->skipping, size);
+        int right = memcmp(want, out, sizeof out) == 0;
+        run(series->library, size);
+        if (!right || memcmp(want, out, sizeof out) != 0) {
+            fprintf(stderr, "%s: a wrong result at size ", series->file);
+            series->print_size(stderr, size);
+            fprintf(stderr, "\n");
             exit(1);
         }
     }
 }
 
-/* The times of a size stand at places 2i, the library's, and 2i + 1, those of C. */
-static void print_row(const struct series *series, size_t i, seconds times, FILE *file)
+/* The times of size i stand from place BESIDE * i on: the library's first. */
+static double best_at(seconds times, size_t i) { return best_of(times[BESIDE * i], ROUNDS); }
+
+/* By how much the time has grown since the row above, and the rule. Nothing is expected where the way changes. */
+static void print_growth(const struct series *series, size_t i, seconds times, FILE *file)
 {
-    const struct size *size = series->sizes + i, *last = series->sizes + series->count - 1;
-    double best = best_of(times[2 * i], ROUNDS), last_best = best_of(times[2 * series->count - 2], ROUNDS);
-    fprintf(file, "| %zu |", series->number(size));
-    print_time(file, best);
+    const struct size *size = series->sizes + i;
     if (i == 0) {
         fprintf(file, " | | |");
-    } else {
-        struct ratio ratio = ratio_of(times[2 * i], times[2 * i - 2], ROUNDS);
-        print_number(file, ratio.median);
-        print_spread(file, &ratio);
-        print_number(file, work_of(size) / work_of(size - 1));
+        return;
     }
-    print_number(file, best / work_of(size) / (last_best / work_of(last)));
-    print_number(file, ratio_of(times[2 * i], times[2 * i + 1], ROUNDS).median);
+    struct ratio ratio = ratio_of(times[BESIDE * i], times[BESIDE * (i - 1)], ROUNDS);
+    print_number(file, ratio.median);
+    print_spread(file, &ratio);
+    if (by_transforms(size) == by_transforms(size - 1))
+        print_number(file, steps_of(size) / steps_of(size - 1));
+    else
+        fprintf(file, " |");
+}
+
+static void print_row(const struct series *series, size_t i, seconds times, FILE *file)
+{
+    const struct size *size = series->sizes + i;
+    size_t last = last_alike(series, i);
+    fprintf(file, "| ");
+    series->print_size(file, size);
+    fprintf(file, " | %s |", by_transforms(size) ? "transforms" : "schoolbook");
+    print_time(file, best_at(times, i));
+    print_growth(series, i, times, file);
+    print_number(file, best_at(times, i) / steps_of(size) / (best_at(times, last) / steps_of(series->sizes + last)));
+    for (size_t v = 1; v < BESIDE; v++)
+        print_number(file, ratio_of(times[BESIDE * i], times[BESIDE * i + v], ROUNDS).median);
     fprintf(file, "\n");
 }
 
@@ -147,10 +231,11 @@ static void measure(const struct series *series, const char *directory)
     static seconds times;
     struct variant variants[MOST_VARIANTS];
     for (size_t i = 0; i < series->count; i++) {
-        variants[2 * i] = (struct variant){LIBRARY, series->library, series->sizes + i};
-        variants[2 * i + 1] = (struct variant){SKIPPING, series->in_c, series->sizes + i};
+        variants[BESIDE * i] = (struct variant){LIBRARY, series->library, series->sizes + i};
+        variants[BESIDE * i + 1] = (struct variant){PLAIN, series->plain, series->sizes + i};
+        variants[BESIDE * i + 2] = (struct variant){SKIPPING, series->skipping, series->sizes + i};
     }
-    take_times(variants, 2 * series->count, ROUNDS, times);
+    take_times(variants, BESIDE * series->count, ROUNDS, times);
     FILE *file = open_rows(directory, series->file);
     for (size_t i = 0; i < series->count; i++)
         print_row(series, i, times, file);

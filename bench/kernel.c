@@ -1,4 +1,4 @@
-/* The product kernel: a digit polynomial of x times a row, added to what is there. */
+/* The product kernel by schoolbook: a digit polynomial of x times a row, added to what is there. */
 #include "schoolbook.h"
 #include "sizes.h"
 #include "thing.h"

@@ -32,14 +32,14 @@ static void join(const void *with, size_t selector, const uint32_t *sample0, con
 static void in_c(const void *with) { join_entries(&table, join, with, D, 0, out); }
 
 #ifdef FFT
-static void transforms(const void *with) { join_entries(&table, fft_cmux, with, D, 0, out); }
+static void fourier(const void *with) { join_entries(&table, fft_cmux, with, D, 0, out); }
 #endif
 
 static const struct variant variants[] = {
     {LIBRARY, library, NULL},
     SCHOOLBOOKS(in_c),
 #ifdef FFT
-    {TRANSFORMS, transforms, NULL},
+    {FOURIER, fourier, NULL},
 #endif
 };
 

@@ -6,7 +6,7 @@
 #include <sys/resource.h>
 #include <time.h>
 
-/* A turn repeats a variant for about so many seconds, so that the clock's grain doesn't count. */
+/* A turn repeats a variant for at least so many seconds, so that the clock's grain doesn't count. */
 static const double turn = 0.006;
 
 void fill(uint32_t *words, size_t count)
@@ -42,13 +42,22 @@ static double time_of(const struct variant *variant, unsigned repeats)
     return (processor_time() - start) / repeats;
 }
 
+/* So many runs that a turn is long enough. The first runs of a variant are slower than those that follow. */
+static unsigned repeats_of(const struct variant *variant)
+{
+    unsigned repeats = 1;
+    while (time_of(variant, repeats) * repeats < turn)
+        repeats *= 2;
+    return repeats;
+}
+
 void take_times(const struct variant *variants, size_t count, int rounds, seconds times)
 {
     unsigned repeats[MOST_VARIANTS];
     if (count > MOST_VARIANTS || rounds < 1 || rounds > MOST_ROUNDS)
         exit(1);
     for (size_t v = 0; v < count; v++)
-        repeats[v] = 1 + (unsigned)(turn / time_of(variants + v, 1));
+        repeats[v] = repeats_of(variants + v);
     for (int r = 0; r < rounds; r++)
         for (size_t i = 0; i < count; i++) {
             size_t v = (i + (size_t)r) % count;

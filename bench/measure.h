@@ -7,7 +7,7 @@
 #include <stdio.h>
 
 /* What a variant is; those after the library are the columns of the summary. */
-enum column { LIBRARY, PLAIN, SKIPPING, ADDING, NATIVE, TRANSFORMS, COLUMNS };
+enum column { LIBRARY, PLAIN, SKIPPING, ADDING, NATIVE, FOURIER, COLUMNS };
 
 struct variant {
     enum column column;
@@ -15,7 +15,7 @@ struct variant {
     const void *with;
 };
 
-enum { MOST_VARIANTS = 16, MOST_ROUNDS = 31 };
+enum { MOST_VARIANTS = 33, MOST_ROUNDS = 31 };
 
 /* Seconds that one run of each variant takes, in each round. Every round starts with another variant. */
 typedef double seconds[MOST_VARIANTS][MOST_ROUNDS];

@@ -11,8 +11,8 @@ machine() {
 
 # growth_table NUMBER FILE
 growth_table() {
-    echo "| $1 | time here | to the row above | spread | expected | time per product, to the last row | to C -O3, zeros skipped |"
-    echo "|---:|---:|---:|---:|---:|---:|---:|"
+    echo "| $1 | way | time here | to the row above | spread | expected | time per step | to C -O3 | to C -O3, zeros skipped |"
+    echo "|---:|---|---:|---:|---:|---:|---:|---:|---:|"
     cat "$work/$2"
 }
 
@@ -34,18 +34,30 @@ END
     cat "$work/summary.md"
     cat << 'END'
 
+The library makes products in two ways, which give the same words, and both are exact:
+
+- **Schoolbook**, at small degrees: every word of one factor times every word of the other. Where one factor is a digit
+  polynomial, digits that are 0 are skipped.
+- **Transforms**, number-theoretic ones modulo two primes: external products and CMuxes from N = 128 on, and products with a key
+  from N = 256 on. Digit polynomials that are 0 are skipped. An external product goes by schoolbook at these degrees too if fewer
+  than 64 words of its sample are not 0.
+
+Words of a key are never skipped: the degree alone decides how a product with a key is made.
+
 What stands beside the library:
 
-- **C -O3** is the same schoolbook in C, by gcc -O3. Like the library it is compiled for every x86-64 machine, with vectors of
-  four words (SSE2): the compiler of the library makes no other code. It multiplies by every digit, also by 0.
-- **C -O3, zeros skipped** passes over digits and key words that are 0, as the library does: both make the same products.
-- **C -O3, additions only** makes products with a key without multiplications, since a key's words are 0 or 1. The library
-  multiplies there too.
+- **C -O3** is schoolbook in C at every degree, by gcc -O3. Like the library it is compiled for every x86-64 machine, with vectors
+  of four words (SSE2): the compiler of the library makes no other code. It multiplies by every word, also by 0.
+- **C -O3, zeros skipped** passes over digits that are 0, and also over key words that are 0, which the library does not do.
+- **C -O3, additions only** makes products with a key without multiplications, since a key's words are 0 or 1, and skips the 0s.
 - **C -O3 -march=native, zeros skipped** is compiled for this very machine, with its widest vectors. It shows what code for every
   x86-64 machine costs.
-- **C with FFTW** makes products by Fourier transforms in double precision, compiled for this very machine. A product takes some
-  N*log(N) steps, where schoolbook takes N^2. Its rows are transformed beforehand, and that isn't timed. It rounds, so its words
-  aren't exact for every gadget; the library's are.
+- **C with FFTW** makes products by Fourier transforms in double precision, compiled for this very machine. Its rows are transformed
+  beforehand, and that isn't timed; the library transforms the rows in every call. It rounds, so its words aren't exact for every
+  gadget; the library's are.
+
+"Digit row times polynomial" is the schoolbook kernel by itself, one product of polynomials out of an external product. At this
+degree a CMux uses it only where its samples differ in few words.
 
 Sizes, but for `ratejob`: N = 1,024, g = 8, L = 2, M = 4, s = 1,024. The lookup has 10 selectors, so 1,024 entries and 1,023
 CMuxes. In every call the library tests all arguments, for instance that key words are 0 or 1. The calls in C test nothing;
@@ -55,11 +67,11 @@ END
     cat "$work/jobs.md"
     cat << 'END'
 
-The small job takes hardly more than a program's start. No job file is larger than the largest job, and none asks for more
-products than the costliest one.
+The small job takes hardly more than a program's start. No job file is larger than the largest job, and none asks schoolbook for
+more products than the costliest one.
 
 The outputs were compared before anything was timed: the words of the library and of every schoolbook in C agree, the classes
-of the transforms are right, and so is every output of `ratejob`.
+that come of FFTW are right, and so is every output of `ratejob`.
 
 END
 }
@@ -89,16 +101,24 @@ growth() {
 
 ## Growth
 
-A lookup has 2^d - 1 CMuxes. A CMux has 4*L products of polynomials, and each of them has N^2 products of words. So the
-time should go like (2^d - 1)*L*N^2. Each row shows by how much the time has grown since the row above, in the median, and by
-how much that rule expects. "Time per product" is the best time over the rule, as a ratio to the last row's: 1.00 all over if the
-rule held exactly. The words of the library were compared with those of C at every size.
+A lookup has 2^d - 1 CMuxes. The steps of a CMux depend on the way that the library takes:
+
+- **schoolbook**, for N below 128: 4*L products of polynomials, with N^2 products of words each;
+- **transforms**, from N = 128 on: modulo each of two primes one transform for each of the 2*L digit polynomials, two for each of
+  the 2*L rows, and two back for every batch of up to sixteen rows, so 6*L + 2 up to L = 8. A transform has N/2*log2(N)
+  butterflies.
+
+The 2^(d - 1) CMuxes that join entries have fewer: the difference of two entries has mask 0 and, whatever L is, one digit that
+isn't 0, and the rest is skipped. That leaves 2 products of polynomials, or 5 transforms.
+
+Each row shows by how much the time has grown since the row above, in the median, and by how much the number of these steps has
+("expected"); where the way changes, nothing is expected. "Time per step" is the best time over the steps, as a ratio to the last
+row of the same way: 1.00 all over if nothing but the steps took time. C goes by schoolbook in every row. The words of the library
+were compared with those of C at every size.
 
 ### Lookup, with the selectors d
 
-N = 128, g = 8, L = 2, M = 16, s = 128. Entries have mask 0 and classes in few digits, and zeros are skipped, so the CMuxes that
-join entries cost less than the others. They are 8 of 15 at d = 4 and 512 of 1,023 at d = 10: the time for each CMux should rise by
-a few percent from the first row to the last, which is less than one run differs from another.
+N = 128, g = 8, L = 2, M = 16, s = 128. The steps are 5*2^(d - 1) + 14*(2^(d - 1) - 1) transforms modulo each prime.
 
 END
     growth_table d lookup-d.md
@@ -106,8 +126,8 @@ END
 
 ### Lookup, with the degree N
 
-d = 3, g = 8, L = 2, M = 16, s = N. The share of zeros is the same at every N. A product of polynomials also has parts that grow
-like N or not at all, so small degrees take longer than N^2 says.
+d = 3, g = 8, L = 2, M = 16, s = N. The share of zeros is the same at every N. Up to 64 the expected growth is that of N^2, from
+128 on that of N*log2(N). A CMux also has parts that grow like N or not at all, so the time grows by less than the steps.
 
 END
     growth_table N lookup-N.md
@@ -115,10 +135,8 @@ END
 
 ### Lookup, with the digits L
 
-N = 512, g = 8, M = 16, s = 512, d = 5. L = 1 is left out: rounding to one digit makes too much noise, and the lookup is refused with
-9. A difference of two entries has one digit that isn't 0, whatever L is, and makes 2 products of polynomials; the other CMuxes make
-4*L. There are 16 CMuxes of the former kind and 15 of the latter, so with zeros skipped the time should go like 32 + 60*L: by 1.39 and
-1.28, where L alone would have it by 1.50 and 1.33.
+N = 512, g = 8, M = 16, s = 512, d = 5. L = 1 is left out: rounding to one digit makes too much noise, and the lookup is refused
+with 9. The steps are 16*5 + 15*(6*L + 2) transforms modulo each prime.
 
 END
     growth_table L lookup-L.md
@@ -126,9 +144,8 @@ END
 
 ### CMux, with the degree N
 
-g = 8, L = 2. The samples are random words, so hardly any digit is 0. The library's accumulator and its table of a row have room
-for the largest degree, and are cleared and copied as a whole for every product of polynomials: at small degrees that takes most
-of the time.
+g = 8, L = 2. The samples are random words, so hardly any digit is 0. Up to 64 the expected growth is that of N^2, from 128 on that
+of N*log2(N). At the smallest degrees the tests of the arguments, copies and rooms that are cleared take most of the time.
 
 END
     growth_table N cmux-N.md
@@ -136,10 +153,20 @@ END
 
 ### CMux, with the digits L
 
-N = 1,024, g = 8, random samples, so hardly any digit is 0.
+N = 1,024, g = 8, random samples, so hardly any digit is 0. The steps are 6*L + 2 transforms modulo each prime.
 
 END
     growth_table L cmux-L.md
+    cat << 'END'
+
+### CMux, with the gadget
+
+N = 1,024, random samples, from the gadget with the fewest digits to that with the most. The steps are 6*L transforms and two for
+every batch of up to sixteen of the 2*L rows, modulo each prime, whatever g is. With g = 1 half of the digits are 0, with g = 2 a
+quarter, with g = 4 a sixteenth: C with zeros skipped gains by that, the library does not.
+
+END
+    growth_table "g, L" cmux-gadget.md
 }
 
 results() {

@@ -10,7 +10,7 @@ static const char *const names[COLUMNS] = {
     [SKIPPING] = "C -O3, zeros skipped",
     [ADDING] = "C -O3, additions only",
     [NATIVE] = "C -O3 -march=native, zeros skipped",
-    [TRANSFORMS] = "C with FFTW",
+    [FOURIER] = "C with FFTW",
 };
 
 /* The variant of a column, or -1. */
@@ -31,7 +31,7 @@ static void run(const struct variant *variant, const struct output *output, cons
 
 static int is_right(const struct variant *variant, const struct output *output, const uint32_t *want)
 {
-    if (variant->column == TRANSFORMS)
+    if (variant->column == FOURIER)
         return output->is_right();
     return memcmp(output->words, want, output->count * sizeof *want) == 0;
 }
