@@ -1,107 +1,15 @@
 // The sum over the rows of a block of digit polynomial times row, an external product row for row, by the faster of two ways: schoolbook,
 // which skips digits 0, or transforms.
-use row_terms::place;
 ghost use mathlib.Core.Path.{_≡_};
-ghost use Prim.Native.Nat.{ℕ, suc, _+_, _*_, _^_, _≤_, _<_};
+ghost use Prim.Native.Nat.{suc, _*_, _≤_};
 ghost use lib.ListN.{length};
-ghost use Rattle.torus.specs.Sum.{tabulate, joined, chunk};
-ghost use Rattle.torus.specs.Word as W;
 ghost use Rattle.torus.specs.Bytes.{words};
 ghost use Rattle.gadget.specs.Digits.{Lawful};
-ghost use Rattle.ring.specs.Polynomial.{Degree, coefficients, addProduct};
+ghost use Rattle.ring.specs.Polynomial.{Degree};
 ghost use Rattle.rns.specs.Exact.{addRows};
-ghost use Rattle.row_terms.specs.Rows.{blockSize, row, rowPart, rowDigits};
+ghost use Rattle.row_terms.specs.Rows.{blockSize, rowPart, rowDigits};
 
-// To each of the k + 1 polynomials of out, the product of small and the same polynomial of row. table and sums are room for 2n
-// and n words, here and below.
-fn add_row(
-    out: &mut [u8],
-    table: &mut [u32],
-    sums: &mut [u32],
-    small: &[u8],
-    row: &[u8],
-    k: usize,
-    n: usize,
-)
-    requires { ⌜ Degree n × (length (now out) ≡ 4 * (suc k * n)) × (length (now small) ≡ 4 * n)
-        × (length (now row) ≡ 4 * (suc k * n))
-        × ((i : ℕ) → i < n → W.magnitude (coefficients (words (now small)) i) ≤ 2 ^ 15)
-        × (n + n ≤ length (now table)) × (n ≤ length (now sums)) ⌝ }
-    ensures { λ _. ⌜ words (now (out .exit)) ≡ joined (suc k) (λ c. addProduct n
-        (chunk n c (words (now (out .entry)))) (words (now (small .entry))) (chunk n c (words (now (row .entry))))) ⌝ }
-{
-    let size = 4 * n;
-    let mut c = 0;
-    while c <= k {
-        let at = c * size;
-        ring::add_sparse_product_in(
-            &mut out[at..at + size],
-            table,
-            sums,
-            small,
-            &row[at..at + size],
-            n,
-        );
-        c += 1;
-    }
-}
-
-// To out, the term of row r: the digit polynomial of x that goes with it, which is made in room, times the row.
-fn add_term(
-    out: &mut [u8],
-    room: &mut [u8],
-    table: &mut [u32],
-    sums: &mut [u32],
-    block: &[u8],
-    x: &[u8],
-    k: usize,
-    n: usize,
-    g: u32,
-    l: u32,
-    r: usize,
-)
-    requires { ⌜ Degree n × Lawful g l × (r < suc k * l) × (length (now out) ≡ 4 * (suc k * n)) × (length (now room) ≡ 4 * n)
-        × (length (now block) ≡ 4 * blockSize n k l) × (length (now x) ≡ 4 * (suc k * n))
-        × (n + n ≤ length (now table)) × (n ≤ length (now sums)) ⌝ }
-    ensures { λ _. ⌜ words (now (out .exit)) ≡ joined (suc k) (λ c. addProduct n (chunk n c (words (now (out .entry))))
-        (tabulate n (rowDigits n g l (words (now (x .entry))) r)) (chunk n c (row n k r (words (now (block .entry)))))) ⌝ }
-{
-    let size = 4 * n;
-    let from = r / l as usize * size;
-    gadget::write_digits(room, &x[from..from + size], n, g, l, place(r, l));
-    let row_size = (k + 1) * size;
-    let at = r * row_size;
-    add_row(out, table, sums, room, &block[at..at + row_size], k, n);
-}
-
-// To out, the terms of all rows of the block. room has n words.
-fn add_terms(
-    out: &mut [u8],
-    room: &mut [u8],
-    table: &mut [u32],
-    sums: &mut [u32],
-    block: &[u8],
-    x: &[u8],
-    k: usize,
-    n: usize,
-    g: u32,
-    l: u32,
-)
-    requires { ⌜ Degree n × Lawful g l × (length (now out) ≡ 4 * (suc k * n)) × (length (now room) ≡ 4 * n)
-        × (length (now block) ≡ 4 * blockSize n k l) × (length (now x) ≡ 4 * (suc k * n))
-        × (n + n ≤ length (now table)) × (n ≤ length (now sums)) ⌝ }
-    ensures { λ _. ⌜ words (now (out .exit)) ≡ addRows n k (suc k * l) (rowDigits n g l (words (now (x .entry))))
-        (rowPart n k (words (now (block .entry)))) (words (now (out .entry))) ⌝ }
-{
-    let rows = (k + 1) * l as usize;
-    let mut r = 0;
-    while r < rows {
-        add_term(out, room, table, sums, block, x, k, n, g, l, r);
-        r += 1;
-    }
-}
-
-// The same at degrees up to 64, where no other way is faster, with room of its own. Room is cleared once for all products, and is
+// To out, the terms of all rows at degrees up to 64, where no other way is faster. Room is cleared once for all products, and is
 // small: to clear that of the greatest degree takes longer than the products of a small one.
 fn add_rows_small(out: &mut [u8], block: &[u8], x: &[u8], k: usize, n: usize, g: u32, l: u32)
     requires { ⌜ Degree n × Lawful g l × (length (now out) ≡ 4 * (suc k * n))
@@ -112,7 +20,7 @@ fn add_rows_small(out: &mut [u8], block: &[u8], x: &[u8], k: usize, n: usize, g:
     let mut room = [0u8; 256];
     let mut table = [0u32; 128];
     let mut sums = [0u32; 64];
-    add_terms(
+    schoolbook_rows::add_terms(
         out,
         &mut room[0..4 * n],
         &mut table,
@@ -144,7 +52,7 @@ fn add_rows_large(
 {
     let mut table = [0u32; 2048];
     let mut sums = [0u32; 1024];
-    add_terms(out, room, &mut table, &mut sums, block, x, k, n, g, l);
+    schoolbook_rows::add_terms(out, room, &mut table, &mut sums, block, x, k, n, g, l);
 }
 
 // 1, or 0 for the word 0.
@@ -175,8 +83,7 @@ fn few_words(x: &[u8], k: usize, n: usize) -> bool
     nonzero_words(x, (k + 1) * n) < 64
 }
 
-// To out, the terms of all rows, by the faster of two ways. The sums of row_sums have room for one mask and the
-// body.
+// To out, the terms of all rows, by the faster of two ways. The sums of row_sums have room for one mask and the body.
 fn add_rows_either(
     out: &mut [u8],
     room: &mut [u8],

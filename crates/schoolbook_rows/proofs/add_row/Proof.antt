@@ -1,4 +1,4 @@
--- `row_products::add_row` meets its contract. The loop's invariant: the first c polynomials are done. Assumes nothing.
+-- `schoolbook_rows::add_row` meets its contract. The loop's invariant: the first c polynomials are done. Assumes nothing.
 use native.Mathlib.Omega.{arith}
 use mathlib.Core.Path.{_≡_, refl, ap₂, _∙_}
 use mathlib.Core.List.{List}
@@ -13,8 +13,8 @@ use Rattle.torus.proofs.Parts.{length-words, words-lent}
 use Rattle.torus.proofs.Joined.{Each, Written, written-none, written-lent, written-more, written-all, chunk-inside}
 use Rattle.ring.specs.Polynomial.{addProduct}
 use borrow.Author.Needs.{needs}
-use Rattle.row_products.proofs.add_row.Statement.{statement}
-use Rattle.row_products.proofs.add_row.Tie as tie
+use Rattle.schoolbook_rows.proofs.add_row.Statement.{statement}
+use Rattle.schoolbook_rows.proofs.add_row.Tie as tie
 
 -- Polynomial c of the result.
 abbrev made : (n : ℕ) (out small row : List ℕ) (c : ℕ) → List ℕ

@@ -1,4 +1,4 @@
--- `row_products::add_term` meets its contract. Assumes nothing.
+-- `schoolbook_rows::add_term` meets its contract. Assumes nothing.
 use native.Mathlib.Omega.{arith}
 use mathlib.Core.Path.{_≡_, ap₂, sym, _∙_, subst}
 use Prim.Native.Nat.{suc, _+_, _*_, _-_, _/_, _^_, _≤_}
@@ -16,8 +16,8 @@ use Rattle.ring.specs.Polynomial.{addProduct}
 use Rattle.row_terms.specs.Rows.{row, rowDigits}
 use Rattle.row_terms.proofs.RowLaws.{component-lt, row-digits}
 use borrow.Author.Needs.{needs}
-use Rattle.row_products.proofs.add_term.Statement.{statement}
-use Rattle.row_products.proofs.add_term.Tie as tie
+use Rattle.schoolbook_rows.proofs.add_term.Statement.{statement}
+use Rattle.schoolbook_rows.proofs.add_term.Tie as tie
 
 -- The row lies inside the block, and its polynomial inside the sample.
 row-inside : (c : tie.Start) → let s = c .args in

@@ -1,4 +1,4 @@
--- `row_products::add_terms` meets its contract. The loop's invariant: the terms of the first r rows are added. Assumes nothing.
+-- `schoolbook_rows::add_terms` meets its contract. The loop's invariant: the terms of the first r rows are added. Assumes nothing.
 use native.Mathlib.Omega.{arith}
 use mathlib.Core.Path.{_≡_, refl}
 use Prim.Native.Nat.{suc, _*_, _-_, _≤_}
@@ -9,10 +9,10 @@ use Rattle.torus.proofs.Parts.{length-words, words-word}
 use Rattle.ring.proofs.Degrees.{degree-pos}
 use Rattle.row_terms.proofs.RowLaws.{rows-fit}
 use Rattle.row_sums.proofs.Batches.{Accumulated, accumulated-none}
-use Rattle.row_products.proofs.OneRow.{accumulated-more}
+use Rattle.schoolbook_rows.proofs.OneRow.{accumulated-more}
 use borrow.Author.Needs.{needs}
-use Rattle.row_products.proofs.add_terms.Statement.{statement}
-use Rattle.row_products.proofs.add_terms.Tie as tie
+use Rattle.schoolbook_rows.proofs.add_terms.Statement.{statement}
+use Rattle.schoolbook_rows.proofs.add_terms.Tie as tie
 
 abbrev Inv-loop : tie.InvT-loop
 Inv-loop out₀ room₀ table₀ sums₀ block x k n g l rows r₀ out room table sums r =
