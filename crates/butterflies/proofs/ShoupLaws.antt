@@ -13,11 +13,6 @@ module _ {p w v : ℕ} (h : Ready p w v) where
   pub quotient-lt : w * 4294967296 < v * p + p
   quotient-lt = rw (h .quotient) (lt-div-mul-add (let l = h .low in omega arith))
 
-  pub quotient-word : v < 4294967296
-  quotient-word =
-      let l = h .low in
-      lt-of-not-le (λ g. let f : ⊥ = omega (arith, mul-le-mul-right p g, quotient-le) in f)
-
   module _ (y : ℕ) (ly : y < 4294967296) where
     pub shoup-le : y * v / 4294967296 * p ≤ y * w
     shoup-le =

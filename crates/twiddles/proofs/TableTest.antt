@@ -143,7 +143,6 @@ module _ {p : ℕ} {t q w v : List ℕ} (r : Right p t q w v) where
 
 -- What is known of a prime and its tables.
 pub record Lawful (prime : Prime) (n : ℕ) : Type 0 where
-  pub small : modulus prime < 1073741824
   pub big : 4294967296 ≤ 6 * modulus prime
   pub twiddles : Twiddles (modulus prime) n (rootsOf prime) (quotientsOf prime)
   pub ready : Ready (modulus prime) (getD (scalesOf prime) n 0) (getD (scaleQuotientsOf prime) n 0)
@@ -152,14 +151,12 @@ pub record Lawful (prime : Prime) (n : ℕ) : Type 0 where
 pub lawful : (prime : Prime) (n : ℕ) → n ≤ 10 → Lawful prime n
 unfolding rootsOf quotientsOf scalesOf scaleQuotientsOf
 lawful First n few = record {
-  small = omega arith;
   big = omega arith;
   twiddles = twiddles right1 n few;
   ready = scale right1 n few .0;
   inverse = scale right1 n few .1;
 }
 lawful Second n few = record {
-  small = omega arith;
   big = omega arith;
   twiddles = twiddles right2 n few;
   ready = scale right2 n few .0;
