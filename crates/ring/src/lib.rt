@@ -1,11 +1,11 @@
 // Polynomials modulo X^n + 1 in lent bytes, and the product of a small one with any other.
 ghost use mathlib.Core.Path.{_≡_};
-ghost use Prim.Native.Nat.{_+_, _*_, _%_, _^_, _≤_};
+ghost use Prim.Native.Nat.{_+_, _-_, _*_, _%_, _^_, _≤_, _<_};
 ghost use lib.ListN.{length, getD};
-ghost use Rattle.torus.specs.Sum.{tabulate};
+ghost use Rattle.torus.specs.Sum.{sum, tabulate};
 ghost use Rattle.torus.specs.Word as W;
 ghost use Rattle.torus.specs.Bytes.{words};
-ghost use Rattle.ring.specs.Polynomial.{Degree, log, isDegree, coefficients, Agree, Factors, addProduct};
+ghost use Rattle.ring.specs.Polynomial.{Degree, log, isDegree, coefficients, Agree, Factors, product, addProduct};
 ghost use Rattle.ring.specs.Rows.{BothSigns, rowSum};
 
 // Whether n is a degree: a power of two has exactly one bit set.
@@ -25,6 +25,53 @@ pub fn exponent(n: usize) -> usize
 {
     u64::trailing_zeros(n as u64) as usize
 }
+
+// ---- by coefficients
+
+// The sum of `count` terms of a product: words of small from place `from` up, times words of row from place `top` down.
+fn sum_terms(small: &[u8], row: &[u8], from: usize, top: usize, count: usize) -> u32
+    requires { ⌜ (4 * (from + count) ≤ length (now small)) × (count ≤ top + 1) × (4 * (top + 1) ≤ length (now row)) ⌝ }
+    ensures { λ r. ⌜ r ≡ sum count (λ i. coefficients (words (now (small .entry))) (from + i)
+        * coefficients (words (now (row .entry))) (top - i)) % 2 ^ 32 ⌝ }
+{
+    let mut total = 0;
+    let mut i = 0;
+    while i < count {
+        let term = torus::mul(
+            torus::word_at(small, from + i),
+            torus::word_at(row, top - i),
+        );
+        total = torus::add(total, term);
+        i += 1;
+    }
+    total
+}
+
+// Coefficient k of the product: the terms that stay below X^n, less those that pass it.
+fn coefficient(small: &[u8], row: &[u8], n: usize, k: usize) -> u32
+    requires { ⌜ (k < n) × (length (now small) ≡ 4 * n) × (length (now row) ≡ 4 * n) ⌝ }
+    ensures { λ r. ⌜ r ≡ product n (coefficients (words (now (small .entry)))) (coefficients (words (now (row .entry)))) k ⌝ }
+{
+    let inside = sum_terms(small, row, 0, k, k + 1);
+    let passed = sum_terms(small, row, k + 1, n - 1, n - (k + 1));
+    torus::sub(inside, passed)
+}
+
+// To out, the product of small and row, coefficient by coefficient.
+fn add_by_coefficients(out: &mut [u8], small: &[u8], row: &[u8], n: usize)
+    requires { ⌜ (length (now out) ≡ 4 * n) × (length (now small) ≡ 4 * n) × (length (now row) ≡ 4 * n) ⌝ }
+    ensures { λ _. ⌜ words (now (out .exit))
+        ≡ addProduct n (words (now (out .entry))) (words (now (small .entry))) (words (now (row .entry))) ⌝ }
+{
+    let mut k = 0;
+    while k < n {
+        let w = torus::word_at(out, k);
+        torus::put_word(out, k, torus::add(w, coefficient(small, row, n, k)));
+        k += 1;
+    }
+}
+
+// ---- by rows
 
 // The table -row, row, in which X^i·row is the n words from place n - i on: no term needs a test for its sign.
 fn both_signs(table: &mut [u32], row: &[u8], n: usize)
@@ -102,8 +149,8 @@ fn add_words(out: &mut [u8], a: &[u32], n: usize)
     }
 }
 
-// To out, the product of small and row modulo X^n + 1. table and sums are room for 2n and n words.
-fn add_product_in(
+// To out, the product of small and row, as the sum of every word of small times X^i·row. table and sums are room for 2n and n words.
+fn add_by_rows(
     out: &mut [u8],
     table: &mut [u32],
     sums: &mut [u32],
@@ -119,6 +166,30 @@ fn add_product_in(
     both_signs(table, row, n);
     row_sums(sums, small, table, n, skip);
     add_words(out, sums, n);
+}
+
+// ---- the product
+
+// To out, the product of small and row modulo X^n + 1, in lent room. The smallest degrees need no table: to make it takes longer than
+// their few terms.
+fn add_product_in(
+    out: &mut [u8],
+    table: &mut [u32],
+    sums: &mut [u32],
+    small: &[u8],
+    row: &[u8],
+    n: usize,
+    skip: bool,
+)
+    requires { ⌜ Factors n (now out) (now small) (now row) × (n + n ≤ length (now table)) × (n ≤ length (now sums)) ⌝ }
+    ensures { λ _. ⌜ words (now (out .exit))
+        ≡ addProduct n (words (now (out .entry))) (words (now (small .entry))) (words (now (row .entry))) ⌝ }
+{
+    if n <= 4 {
+        add_by_coefficients(out, small, row, n);
+        return;
+    }
+    add_by_rows(out, table, sums, small, row, n, skip);
 }
 
 // The same with room of its own. Room is cleared before it is used, so that small degrees have a small one.
@@ -148,8 +219,8 @@ pub fn add_product(out: &mut [u8], small: &[u8], row: &[u8], n: usize)
     add_product_roomed(out, small, row, n, false);
 }
 
-// The product kernel for public factors: the same, and words 0 of small cost nothing. Digits are no secrets, and many are 0: the
-// difference of two trivial samples has the mask 0, and with it only digits 0 there.
+// The product kernel for public factors: the same, and where it goes by rows words 0 of small cost nothing. Digits are no secrets, and
+// many are 0: the difference of two trivial samples has the mask 0, and with it only digits 0 there.
 pub fn add_sparse_product(out: &mut [u8], small: &[u8], row: &[u8], n: usize)
     requires { ⌜ Factors n (now out) (now small) (now row) ⌝ }
     ensures { λ _. ⌜ words (now (out .exit))

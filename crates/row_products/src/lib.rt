@@ -9,8 +9,32 @@ ghost use Rattle.ring.specs.Polynomial.{Degree};
 ghost use Rattle.rns.specs.Exact.{addRows};
 ghost use Rattle.row_terms.specs.Rows.{blockSize, rowPart, rowDigits};
 
-// To out, the terms of all rows at degrees up to 64, where no other way is faster. Room is cleared once for all products, and is
-// small: to clear that of the greatest degree takes longer than the products of a small one.
+// To out, the terms of all rows at degrees up to 4. Room is cleared once for all products, and is no larger than it must be: to clear
+// that of a great degree takes longer than the products of a small one.
+fn add_rows_tiny(out: &mut [u8], block: &[u8], x: &[u8], k: usize, n: usize, g: u32, l: u32)
+    requires { ⌜ Degree n × Lawful g l × (length (now out) ≡ 4 * (suc k * n))
+        × (length (now block) ≡ 4 * blockSize n k l) × (length (now x) ≡ 4 * (suc k * n)) × (n ≤ 4) ⌝ }
+    ensures { λ _. ⌜ words (now (out .exit)) ≡ addRows n k (suc k * l) (rowDigits n g l (words (now (x .entry))))
+        (rowPart n k (words (now (block .entry)))) (words (now (out .entry))) ⌝ }
+{
+    let mut room = [0u8; 16];
+    let mut table = [0u32; 8];
+    let mut sums = [0u32; 4];
+    schoolbook_rows::add_terms(
+        out,
+        &mut room[0..4 * n],
+        &mut table,
+        &mut sums,
+        block,
+        x,
+        k,
+        n,
+        g,
+        l,
+    );
+}
+
+// The same at degrees up to 64, where no other way is faster.
 fn add_rows_small(out: &mut [u8], block: &[u8], x: &[u8], k: usize, n: usize, g: u32, l: u32)
     requires { ⌜ Degree n × Lawful g l × (length (now out) ≡ 4 * (suc k * n))
         × (length (now block) ≡ 4 * blockSize n k l) × (length (now x) ≡ 4 * (suc k * n)) × (n ≤ 64) ⌝ }
@@ -117,6 +141,10 @@ pub fn add_rows(out: &mut [u8], block: &[u8], x: &[u8], k: usize, n: usize, g: u
     ensures { λ _. ⌜ words (now (out .exit)) ≡ addRows n k (suc k * l) (rowDigits n g l (words (now (x .entry))))
         (rowPart n k (words (now (block .entry)))) (words (now (out .entry))) ⌝ }
 {
+    if n <= 4 {
+        add_rows_tiny(out, block, x, k, n, g, l);
+        return;
+    }
     if n <= 64 {
         add_rows_small(out, block, x, k, n, g, l);
         return;

@@ -1,7 +1,7 @@
 -- `held_sums::add_row` meets its contract. Assumes nothing.
 use borrow.Author.Needs.{needs}
 use native.Mathlib.Omega.{arith}
-use mathlib.Core.Path.{_≡_, ap, subst, _∙_}
+use mathlib.Core.Path.{ap, subst, _∙_}
 use Prim.Native.Nat.{suc, _*_}
 use Rattle.torus.specs.Bytes.{words}
 use Rattle.twiddles.proofs.TableTest.{handed}

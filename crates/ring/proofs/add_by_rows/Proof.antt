@@ -1,11 +1,11 @@
--- `ring::add_product_in` meets its contract. Assumes nothing.
+-- `ring::add_by_rows` meets its contract. Assumes nothing.
 use mathlib.Core.Path.{_∙_}
 use Rattle.torus.specs.Bytes.{words}
 use Rattle.torus.proofs.Parts.{words-word}
 use Rattle.ring.proofs.RowSums.{sums-added}
 use borrow.Author.Needs.{needs}
-use Rattle.ring.proofs.add_product_in.Statement.{statement}
-use Rattle.ring.proofs.add_product_in.Tie as tie
+use Rattle.ring.proofs.add_by_rows.Statement.{statement}
+use Rattle.ring.proofs.add_by_rows.Tie as tie
 
 both-signs-requires : tie.Need-both-signs-requires
 both-signs-requires c κs = search needs
@@ -35,8 +35,8 @@ returns c =
     ∙ sums-added (s .n) (words (s .out .now)) (words (s .small .now)) (words (s .row .now)) (table .last .0) (sums .last .0)
     (words-word (s .row .now) (λ i. bytes .given i .fits)) (table .ensures) (sums .ensures)
 
-pub add-product-in-spec : {M : Type 1} → statement M
-add-product-in-spec =
+pub add-by-rows-spec : {M : Type 1} → statement M
+add-by-rows-spec =
     tie.close
     (tie.spec
     both-signs-requires
