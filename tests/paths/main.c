@@ -139,7 +139,7 @@ static int give_up(void)
 int main(int argc, char **argv)
 {
     const struct call *const calls[] = {&encrypt_classes, &encrypt_selector, &decrypt_classes, &decrypt_scalar};
-    const uint64_t degrees[] = {1, 8, 64, 128, 256, 1024};
+    const uint64_t degrees[] = {1, 4, 8, 64, 128, 256, 1024};
     start("paths");
     at("preparing");
     need(argc == 2 || (argc == 3 && strcmp(argv[2], "samples") == 0), "the list of jumps as its argument");

@@ -1,4 +1,4 @@
-//! Extreme words in large calls: the greatest sums, the least digits, few words that are not 0, keys of every
+//! Extreme words: the greatest sums, the least digits, few words that are not 0, keys of every
 //! kind. The degrees are those round which a product may be made another way, and the greatest.
 
 mod fillings;

@@ -9,7 +9,7 @@ use reference::calls::Call;
 use reference::classes::Classes;
 use reference::torus::{word, HALF_TURN};
 
-const DEGREES: [u64; 4] = [64, 128, 256, 1024];
+const DEGREES: [u64; 6] = [4, 8, 64, 128, 256, 1024];
 
 #[derive(Clone, Copy)]
 enum Key {

@@ -9,7 +9,7 @@ use reference::gadget::Gadget;
 use reference::polynomial::sum;
 use reference::torus::{word, HALF_TURN, TURN};
 
-const DEGREES: [u64; 5] = [64, 128, 256, 512, 1024];
+const DEGREES: [u64; 7] = [4, 8, 64, 128, 256, 512, 1024];
 
 /// The greatest sums, the most rows, and digits that don't take up the whole word.
 pub const GADGETS: [(u64, u64); 3] = [(16, 2), (1, 32), (8, 2)];
