@@ -18,7 +18,7 @@ use Rattle.ring.specs.Polynomial.{Agree, log}
 use Rattle.twiddles.specs.declared.Prime.{Prime}
 use Rattle.residues.specs.Residues.{Within}
 use Rattle.held_sums.specs.Sums.{Held, OneMore, Told, ReadBack}
-use Rattle.row_terms.specs.Rows.{row, rowDigits, digitsFrom, rowsFrom}
+use Rattle.row_terms.specs.Rows.{blockSize, row, rowDigits, digitsFrom, rowsFrom}
 
 -- One row more is held.
 pub held-more : (prime : Prime) (N k g L : ℕ) (block x : List ℕ) (r j : ℕ) (sums sums′ : List ℕ)
@@ -55,9 +55,16 @@ size-le k n lk ln = let l : suc k ≤ 2 = omega arith in mul-le-mul l ln
 -- ---- room
 
 -- The polynomial that a row is for is a mask or the body.
-pub component-lt : (k L r : ℕ) → r < suc k * L → r / L < suc k
+component-lt : (k L r : ℕ) → r < suc k * L → r / L < suc k
 component-lt k zero r l = absurd (omega (arith, mul-zero (suc k)))
 component-lt k (suc L) r l = div-lt-iff-lt-mul (zero-lt-suc L) .1 l
+
+-- That polynomial lies inside a sample, and the row inside a block.
+pub component-inside : (N k L r : ℕ) → r < suc k * L → suc (r / L) * N ≤ suc k * N
+component-inside N k L r l = mul-le-mul-right N (component-lt k L r l)
+
+pub row-inside : (N k L r : ℕ) → r < suc k * L → suc r * (suc k * N) ≤ blockSize N k L
+row-inside N k L r l = mul-le-mul-right (suc k * N) l
 
 -- A block of rows has at least as many words as rows.
 pub rows-fit : (k l n : ℕ) → 0 < n → suc k * l ≤ suc k * l * (suc k * n)

@@ -1,10 +1,11 @@
 // The terms of the rows of a block, digit polynomial times row, summed up modulo one prime.
 use twiddles::Prime;
 ghost use mathlib.Core.Path.{_≡_};
-ghost use Prim.Native.Nat.{suc, _+_, _*_, _%_, _≤_, _<_};
+ghost use Prim.Native.Nat.{suc, _+_, _*_, _/_, _%_, _≤_, _<_};
 ghost use lib.ListN.{length};
 ghost use Rattle.torus.specs.Sum.{tabulate};
 ghost use Rattle.torus.specs.Bytes.{words};
+ghost use Rattle.gadget.specs.Digits.{Lawful};
 ghost use Rattle.ring.specs.Polynomial.{Degree, Agree, coefficients, log};
 ghost use Rattle.butterflies.specs.Butterflies.{Below};
 ghost use Rattle.twiddles.specs.Primes.{modulus};
@@ -18,6 +19,26 @@ pub fn place(r: usize, l: u32) -> u32
     ensures { λ j. ⌜ (j ≡ suc (r % l)) × (j ≤ l) ⌝ }
 {
     (r % l as usize) as u32 + 1
+}
+
+// To out, the digit polynomial of x that goes with row r.
+pub fn write_row_digits(out: &mut [u8], x: &[u8], n: usize, g: u32, l: u32, r: usize)
+    requires { ⌜ Lawful g l × (length (now out) ≡ 4 * n) × (4 * (suc (r / l) * n) ≤ length (now x)) ⌝ }
+    ensures { λ _. ⌜ words (now (out .exit)) ≡ tabulate n (rowDigits n g l (words (now (x .entry))) r) ⌝ }
+{
+    let size = 4 * n;
+    let from = r / l as usize * size;
+    gadget::write_digits(out, &x[from..from + size], n, g, l, place(r, l));
+}
+
+// The bytes of row r of a block.
+pub fn row_at<'a>(block: &'a [u8], k: usize, n: usize, r: usize) -> &'a [u8]
+    requires { ⌜ (0 < n) × (4 * (suc r * (suc k * n)) ≤ length (now block)) ⌝ }
+    ensures { λ s. ⌜ (words (now s) ≡ row n k r (words (now (block .entry)))) × (length (now s) ≡ 4 * (suc k * n)) ⌝ }
+{
+    let size = 4 * ((k + 1) * n);
+    let at = r * size;
+    &block[at..at + size]
 }
 
 // How many words 0 s begins with.
@@ -76,12 +97,8 @@ fn hold_term(
     ensures { λ _. ⌜ OneMore prime (log n) n k (tabulate n (rowDigits n g l (words (now (x .entry))) r))
         (row n k r (words (now (block .entry)))) (now (sums .entry)) (now (sums .exit)) ⌝ }
 {
-    let size = 4 * n;
-    let from = r / l as usize * size;
-    gadget::write_digits(room, &x[from..from + size], n, g, l, place(r, l));
-    let row_size = (k + 1) * size;
-    let at = r * row_size;
-    hold_row(sums, room, &block[at..at + row_size], k, n, t, q, prime);
+    write_row_digits(room, x, n, g, l, r);
+    hold_row(sums, room, row_at(block, k, n, r), k, n, t, q, prime);
 }
 
 // The terms of `count` rows, from row `from` on. The sums hold no row before.

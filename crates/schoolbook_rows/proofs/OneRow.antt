@@ -2,19 +2,28 @@
 -- Assumes nothing.
 use mathlib.Core.Path.{_≡_, ap, ap₂, sym, _∙_}
 use mathlib.Core.List.{List}
-use Prim.Native.Nat.{ℕ, suc, _+_, _*_, _%_, _^_, _<_}
+use Prim.Native.Nat.{ℕ, suc, _+_, _*_, _%_, _^_, _≤_, _<_}
+use native.Mathlib.Nat.{le-trans}
 use native.Mathlib.Numerals.{add-one}
 use lib.ListN.{getD}
 use Rattle.torus.specs.Sum.{sum, tabulate, joined, chunk}
-use Rattle.torus.specs.Word.{add}
+use Rattle.torus.specs.Word.{add, magnitude}
 use Rattle.torus.proofs.Sums.{add-add}
 use Rattle.torus.proofs.Lists.{length-tabulate, tabulate-at, tabulate-cong}
 use Rattle.torus.proofs.Joined.{joined-cong, joined-at, chunk-at}
+use Rattle.gadget.specs.Digits.{Lawful}
+use Rattle.gadget.proofs.Laws.{digit-magnitude, half-le}
 use Rattle.ring.specs.Polynomial.{coefficients, product, addProduct}
 use Rattle.ring.proofs.Terms.{product-agree}
 use Rattle.rns.specs.Exact.{addRows}
 use Rattle.row_terms.specs.Rows.{row, rowPart, rowDigits}
 use Rattle.row_sums.proofs.Batches.{Accumulated}
+
+-- The digits that go with a row are small enough for the product kernel.
+pub row-digits-small : (N g L : ℕ) (x : List ℕ) (r : ℕ) → Lawful g L → (i : ℕ) → i < N
+    → magnitude (getD (tabulate N (rowDigits N g L x r)) i 0) ≤ 2 ^ 15
+row-digits-small N g L x r ok i l =
+    rw (tabulate-at N (rowDigits N g L x r) i l) (le-trans (digit-magnitude g L _ _ ok) (half-le g (ok .high)))
 
 -- One row more.
 pub accumulated-more : (N k g L : ℕ) (block x : List ℕ) (r : ℕ) (o out out′ : List ℕ) → Accumulated N k g L block x r o out

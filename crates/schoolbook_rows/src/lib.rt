@@ -1,5 +1,4 @@
 // The sum over the rows of a block of digit polynomial times row, one product of polynomials after another, by schoolbook.
-use row_terms::place;
 ghost use mathlib.Core.Path.{_≡_};
 ghost use Prim.Native.Nat.{ℕ, suc, _+_, _*_, _^_, _≤_, _<_};
 ghost use lib.ListN.{length};
@@ -65,12 +64,16 @@ fn add_term(
     ensures { λ _. ⌜ words (now (out .exit)) ≡ joined (suc k) (λ c. addProduct n (chunk n c (words (now (out .entry))))
         (tabulate n (rowDigits n g l (words (now (x .entry))) r)) (chunk n c (row n k r (words (now (block .entry)))))) ⌝ }
 {
-    let size = 4 * n;
-    let from = r / l as usize * size;
-    gadget::write_digits(room, &x[from..from + size], n, g, l, place(r, l));
-    let row_size = (k + 1) * size;
-    let at = r * row_size;
-    add_row(out, table, sums, room, &block[at..at + row_size], k, n);
+    row_terms::write_row_digits(room, x, n, g, l, r);
+    add_row(
+        out,
+        table,
+        sums,
+        room,
+        row_terms::row_at(block, k, n, r),
+        k,
+        n,
+    );
 }
 
 // To out, the terms of all rows of the block. room has n words.
