@@ -37,6 +37,6 @@ pub extern "C" fn add_digit_row(
     }
     let degree = n as usize;
     gadget::write_digits(digits, x, degree, g as u32, l as u32, j as u32);
-    ring::add_sparse_product(out, digits, row, degree);
+    schoolbook::add_sparse_product(out, digits, row, degree);
     0
 }

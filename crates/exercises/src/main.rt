@@ -40,7 +40,7 @@ fn product() -> [u8; 8] {
     let x = [0u8, 0, 0, 0, 1, 0, 0, 0];
     let row = [1u8, 0, 0, 0, 2, 0, 0, 0];
     let mut out = [0u8; 8];
-    ring::add_product(&mut out, &x, &row, 2);
+    schoolbook::add_product(&mut out, &x, &row, 2);
     out
 }
 

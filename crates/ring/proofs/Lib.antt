@@ -1,5 +1,5 @@
 pub mod Poly
 pub mod Terms
 pub mod Close
-pub mod RowSums
 pub mod Degrees
+pub mod Coefficients

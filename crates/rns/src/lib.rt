@@ -60,15 +60,15 @@ fn add_product_in(
     residues::add_words(out, first, second);
 }
 
-// The product kernel for a factor that is a key, with the contract of ring::add_product. The degree alone chooses the way: schoolbook is
-// faster below 256.
+// The product kernel for a factor that is a key, with the contract of schoolbook::add_product. The degree alone chooses the way:
+// schoolbook is faster below 256.
 pub fn add_product(out: &mut [u8], small: &[u8], row: &[u8], n: usize)
     requires { ⌜ Factors n (now out) (now small) (now row) ⌝ }
     ensures { λ _. ⌜ words (now (out .exit))
         ≡ addProduct n (words (now (out .entry))) (words (now (small .entry))) (words (now (row .entry))) ⌝ }
 {
     if n < 256 {
-        ring::add_product(out, small, row, n);
+        schoolbook::add_product(out, small, row, n);
         return;
     }
     let mut first = [0u32; 1024];

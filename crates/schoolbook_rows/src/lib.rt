@@ -32,7 +32,7 @@ fn add_row(
     let mut c = 0;
     while c <= k {
         let at = c * size;
-        ring::add_sparse_product_in(
+        schoolbook::add_sparse_product_in(
             &mut out[at..at + size],
             table,
             sums,

@@ -3,7 +3,7 @@ use borrow.Author.Needs.{needs}
 use mathlib.Core.Path.{_∙_}
 use Rattle.torus.specs.Bytes.{words}
 use Rattle.ring.specs.Polynomial.{coefficients}
-use Rattle.ring.proofs.RowSums.{coefficient-product}
+use Rattle.ring.proofs.Coefficients.{coefficient-product}
 use Rattle.ring.proofs.coefficient.Statement.{statement}
 use Rattle.ring.proofs.coefficient.Tie as tie
 

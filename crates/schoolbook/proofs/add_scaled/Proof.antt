@@ -1,4 +1,4 @@
--- `ring::add_scaled` meets its contract. The loop's invariant: the first k sums are made. Assumes nothing.
+-- `schoolbook::add_scaled` meets its contract. The loop's invariant: the first k sums are made. Assumes nothing.
 use borrow.Author.Needs.{needs}
 use native.Mathlib.Omega.{arith}
 use mathlib.Core.Path.{_≡_, refl, _∙_, ap}
@@ -6,9 +6,9 @@ use Prim.Native.Nat.{ℕ, _≤_, _-_, _+_, _<_}
 use lib.ListN.{length, getD, length-set}
 use Rattle.torus.specs.Word.{add, mul}
 use Rattle.torus.proofs.Lists.{filled, filled-none, filled-in-place, filled-before}
-use Rattle.ring.proofs.RowSums.{add-none}
-use Rattle.ring.proofs.add_scaled.Statement.{statement}
-use Rattle.ring.proofs.add_scaled.Tie as tie
+use Rattle.schoolbook.proofs.RowSums.{add-none}
+use Rattle.schoolbook.proofs.add_scaled.Statement.{statement}
+use Rattle.schoolbook.proofs.add_scaled.Tie as tie
 
 abbrev Inv-loop : tie.InvT-loop
 Inv-loop acc₀ d table from n skip k₀ acc k = (k ≤ n) × (length acc ≡ length acc₀) × (acc ≡ filled k (λ i. add (getD acc₀ i 0) (mul d (getD table (from + i) 0))) acc₀)

@@ -1,11 +1,11 @@
--- `ring::add_by_rows` meets its contract. Assumes nothing.
+-- `schoolbook::add_by_rows` meets its contract. Assumes nothing.
 use mathlib.Core.Path.{_∙_}
 use Rattle.torus.specs.Bytes.{words}
 use Rattle.torus.proofs.Parts.{words-word}
-use Rattle.ring.proofs.RowSums.{sums-added}
+use Rattle.schoolbook.proofs.RowSums.{sums-added}
 use borrow.Author.Needs.{needs}
-use Rattle.ring.proofs.add_by_rows.Statement.{statement}
-use Rattle.ring.proofs.add_by_rows.Tie as tie
+use Rattle.schoolbook.proofs.add_by_rows.Statement.{statement}
+use Rattle.schoolbook.proofs.add_by_rows.Tie as tie
 
 both-signs-requires : tie.Need-both-signs-requires
 both-signs-requires c κs = search needs

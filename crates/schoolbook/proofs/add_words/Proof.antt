@@ -1,4 +1,4 @@
--- `ring::add_words` meets its contract. The loop's invariant: the first k sums are made. Assumes nothing.
+-- `schoolbook::add_words` meets its contract. The loop's invariant: the first k sums are made. Assumes nothing.
 use borrow.Author.Needs.{needs}
 use native.Mathlib.Omega.{arith}
 use mathlib.Core.Path.{_≡_, refl, _∙_}
@@ -8,8 +8,8 @@ use Rattle.torus.specs.Word.{add}
 use Rattle.torus.specs.Bytes.{words}
 use Rattle.torus.proofs.Lists.{filled, filled-none, filled-in-place, filled-all}
 use Rattle.torus.proofs.Parts.{length-words}
-use Rattle.ring.proofs.add_words.Statement.{statement}
-use Rattle.ring.proofs.add_words.Tie as tie
+use Rattle.schoolbook.proofs.add_words.Statement.{statement}
+use Rattle.schoolbook.proofs.add_words.Tie as tie
 
 abbrev Inv-loop : tie.InvT-loop
 Inv-loop out₀ a n k₀ out k = (k ≤ n) × (length out ≡ length out₀) × (words out ≡ filled k (λ i. add (getD (words out₀) i 0) (getD a i 0)) (words out₀))

@@ -1,15 +1,15 @@
--- `ring::row_sums` meets its contract. The loop's invariant: acc has the sums of the last m rows. Assumes nothing.
+-- `schoolbook::row_sums` meets its contract. The loop's invariant: acc has the sums of the last m rows. Assumes nothing.
 use borrow.Author.Needs.{needs}
 use native.Mathlib.Omega.{arith}
 use mathlib.Core.Path.{_≡_, subst}
 use Prim.Native.Nat.{ℕ, _≤_, _-_, _%_, _^_}
 use lib.ListN.{length}
 use Rattle.torus.specs.Bytes.{words}
 use Rattle.ring.specs.Polynomial.{coefficients, Agree}
-use Rattle.ring.specs.Rows.{rowSum}
-use Rattle.ring.proofs.RowSums.{row-none, row-more}
-use Rattle.ring.proofs.row_sums.Statement.{statement}
-use Rattle.ring.proofs.row_sums.Tie as tie
+use Rattle.schoolbook.specs.Rows.{rowSum}
+use Rattle.schoolbook.proofs.RowSums.{row-none, row-more}
+use Rattle.schoolbook.proofs.row_sums.Statement.{statement}
+use Rattle.schoolbook.proofs.row_sums.Tie as tie
 
 abbrev Inv-loop : tie.InvT-loop
 Inv-loop acc₀ small table n skip m₀ acc m = (m ≤ n) × (length acc ≡ length acc₀) × Agree n (coefficients acc) (λ k. rowSum n (words small) table m k % 2 ^ 32)

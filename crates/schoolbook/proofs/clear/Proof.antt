@@ -1,12 +1,12 @@
--- `ring::clear` meets its contract. The loop's invariant: the first k words are 0. Assumes nothing.
+-- `schoolbook::clear` meets its contract. The loop's invariant: the first k words are 0. Assumes nothing.
 use borrow.Author.Needs.{needs}
 use native.Mathlib.Omega.{arith}
 use mathlib.Core.Path.{_≡_, refl, _∙_, ap}
 use Prim.Native.Nat.{ℕ, _≤_, _-_, _<_}
 use lib.ListN.{length, getD, length-set}
 use Rattle.torus.proofs.Lists.{filled, filled-none, filled-more, filled-before}
-use Rattle.ring.proofs.clear.Statement.{statement}
-use Rattle.ring.proofs.clear.Tie as tie
+use Rattle.schoolbook.proofs.clear.Statement.{statement}
+use Rattle.schoolbook.proofs.clear.Tie as tie
 
 abbrev Inv-loop : tie.InvT-loop
 Inv-loop acc₀ n k₀ acc k = (k ≤ n) × (length acc ≡ length acc₀) × (acc ≡ filled k (λ i. 0) acc₀)

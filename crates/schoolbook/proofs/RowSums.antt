@@ -1,12 +1,10 @@
--- What the product's code needs: by coefficients, what its sums are; by rows, its table, its loops' steps, and that the sum of all
--- rows is the product.
+-- What the product's code needs: its table, its loops' steps, and that the sum of all rows is the product.
 -- Assumes nothing.
 use mathlib.Core.Path.{_≡_, refl, ap, ap₂, sym, _∙_}
 use mathlib.Core.Logic.{_⊎_, inl, inr}
 use mathlib.Core.List.{List}
 use Prim.Native.Nat.{ℕ, zero, suc, _+_, _-_, _*_, _%_, _^_, _≤_, _<_}
 use native.Mathlib.Nat.{zero-add, zero-mul, add-assoc, add-comm, mul-comm, eq-or-lt-of-le}
-use native.Mathlib.Numerals.{add-one}
 use native.Mathlib.Omega.{arith}
 use lib.ListN.{length, getD, set, length-set}
 use lib.Seq.{getD-set-same, getD-set-other}
@@ -15,24 +13,11 @@ use Rattle.torus.specs.Word.{add, sub, mul}
 use Rattle.torus.proofs.Sums.{sum-cong, sum-mul, summed-more}
 use Rattle.torus.proofs.Lists.{tabulate-cong}
 use Rattle.torus.proofs.Near.{Near, near-path, near-refl, congruent-trans, congruent-add, congruent-scale, congruent-sum, near-eq, sub-near}
 use Rattle.ring.specs.Polynomial.{coefficients, Agree, inside, passed, product, addProduct}
-use Rattle.ring.specs.Rows.{BothSigns, rowSum}
+use Rattle.schoolbook.specs.Rows.{BothSigns, rowSum}
 use Rattle.ring.proofs.Terms.{sum-split, minus-word}
 
--- ---- by coefficients
-
--- Coefficient k as the code sums it up: the places of p go down, from k and from the last one.
-pub coefficient-product : (n k a b : ℕ) (y p : ℕ → ℕ) → k < n → a ≡ sum (k + 1) (λ i. y (0 + i) * p (k - i)) % 2 ^ 32
-    → b ≡ sum (n - (k + 1)) (λ i. y (k + 1 + i) * p (n - 1 - i)) % 2 ^ 32 → sub a b ≡ product n y p k
-unfolding product
-coefficient-product n k a b y p l ea eb =
-    ap₂ sub
-    (ea ∙ ap (λ m. sum m (λ i. y (0 + i) * p (k - i)) % 2 ^ 32) (add-one k)
-    ∙ ap (λ x. x % 2 ^ 32) (sum-cong (suc k) _ _ (λ i li. ap (λ j. y j * p (k - i)) (zero-add i))))
-    (eb ∙ ap (λ m. sum (n - m) (λ i. y (m + i) * p (n - 1 - i)) % 2 ^ 32) (add-one k)
-    ∙ ap (λ x. x % 2 ^ 32) (sum-cong (n - suc k) _ _ (λ i li. let e : n - 1 - i ≡ n + k - (suc k + i) = omega arith in ap (λ j. y (suc k + i) * p j) e)))
-
--- ---- by rows: the table
+-- ---- the table
 
 signs-case : (n m i : ℕ) (p t : List ℕ) (v w : ℕ) → n + n ≤ length t → m < n → BothSigns n p m t → w ≡ coefficients p m → v ≡ sub 0 w
     → (i ≡ m) ⊎ (i < m)
@@ -53,7 +38,7 @@ signs-more n m p t v w len l h ew ev i li =
     let le : i ≤ m = omega arith in
     signs-case n m i p t v w len l h ew ev (eq-or-lt-of-le le)
 
--- ---- by rows: the sums
+-- ---- rows
 
 -- To add 0 times anything changes nothing.
 pub add-none : (n : ℕ) (l : List ℕ) (g : ℕ → ℕ) → ((i : ℕ) → getD l i 0 < 2 ^ 32) → Agree n (coefficients l) (λ k. add (coefficients l k) (mul 0 (g k)))

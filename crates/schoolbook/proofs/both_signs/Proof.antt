@@ -1,4 +1,4 @@
--- `ring::both_signs` meets its contract. The loop's invariant: the first i coefficients and their negatives stand in the table.
+-- `schoolbook::both_signs` meets its contract. The loop's invariant: the first i coefficients and their negatives stand in the table.
 -- Assumes nothing.
 use borrow.Author.Needs.{needs}
 use native.Mathlib.Omega.{arith}
@@ -6,10 +6,10 @@ use mathlib.Core.Path.{_≡_, refl, subst}
 use Prim.Native.Nat.{ℕ, _≤_, _-_}
 use lib.ListN.{length, length-set}
 use Rattle.torus.specs.Bytes.{words}
-use Rattle.ring.specs.Rows.{BothSigns}
-use Rattle.ring.proofs.RowSums.{signs-more}
-use Rattle.ring.proofs.both_signs.Statement.{statement}
-use Rattle.ring.proofs.both_signs.Tie as tie
+use Rattle.schoolbook.specs.Rows.{BothSigns}
+use Rattle.schoolbook.proofs.RowSums.{signs-more}
+use Rattle.schoolbook.proofs.both_signs.Statement.{statement}
+use Rattle.schoolbook.proofs.both_signs.Tie as tie
 
 abbrev Inv-loop : tie.InvT-loop
 Inv-loop table₀ row n i₀ table i = (i ≤ n) × (length table ≡ length table₀) × BothSigns n (words row) i table
