@@ -55,7 +55,7 @@ size-le k n lk ln = let l : suc k ≤ 2 = omega arith in mul-le-mul l ln
 -- ---- room
 
 -- The polynomial that a row is for is a mask or the body.
-component-lt : (k L r : ℕ) → r < suc k * L → r / L < suc k
+pub component-lt : (k L r : ℕ) → r < suc k * L → r / L < suc k
 component-lt k zero r l = absurd (omega (arith, mul-zero (suc k)))
 component-lt k (suc L) r l = div-lt-iff-lt-mul (zero-lt-suc L) .1 l
 
