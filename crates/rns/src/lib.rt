@@ -26,7 +26,7 @@ fn read_product_in(
     ensures { λ _. ⌜ Product prime n (words (now (small .entry))) (words (now (row .entry))) (now (a .exit)) × Below (modulus prime) (now (a .exit)) ⌝ }
 {
     held_sums::add_row(sums, small, row, 0, n, t, q, prime);
-    held_sums::read_sums(a, sums, 0, n, t, q, prime);
+    sums_back::read_sums(a, sums, 0, n, t, q, prime);
 }
 
 // The same, with room and tables.

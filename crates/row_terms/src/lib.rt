@@ -152,7 +152,7 @@ fn read_terms_in(
         × Below (modulus prime) (now (a .exit)) ⌝ }
 {
     hold_terms(sums, room, block, x, k, n, g, l, from, count, t, q, prime);
-    held_sums::read_sums(a, sums, k, n, t, q, prime);
+    sums_back::read_sums(a, sums, k, n, t, q, prime);
 }
 
 // The same, with room for one mask and the body.

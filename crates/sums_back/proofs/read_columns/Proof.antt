@@ -1,4 +1,4 @@
--- `held_sums::read_columns` meets its contract. Assumes nothing.
+-- `sums_back::read_columns` meets its contract. Assumes nothing.
 use borrow.Author.Needs.{needs}
 use native.Mathlib.Omega.{arith}
 use mathlib.Core.Path.{_≡_, ap, ap₂, subst}
@@ -8,10 +8,10 @@ use lib.ListN.{length, take, drop}
 use lib.Pow.{pow-pos}
 use Rattle.torus.specs.Sum.{chunk}
 use Rattle.torus.proofs.Joined.{length-chunk}
 use Rattle.held_sums.specs.Sums.{Back}
 use Rattle.held_sums.proofs.ColumnLaws.{Turned, turned-none, turned-more, lent-length, column-inside}
-use Rattle.held_sums.proofs.read_columns.Statement.{statement}
-use Rattle.held_sums.proofs.read_columns.Tie as tie
+use Rattle.sums_back.proofs.read_columns.Statement.{statement}
+use Rattle.sums_back.proofs.read_columns.Tie as tie
 
 abbrev Inv-loop : tie.InvT-loop
 Inv-loop a₀ sums k size n t q w v p c₀ a c = (Turned (2 ^ n) (suc k) c (λ d x. Back p n t (chunk (2 ^ n) d sums)) a₀ a) × (c ≤ suc k)

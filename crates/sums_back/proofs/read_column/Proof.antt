@@ -1,13 +1,13 @@
--- `held_sums::read_column` meets its contract. Assumes nothing.
+-- `sums_back::read_column` meets its contract. Assumes nothing.
 use borrow.Author.Needs.{needs}
 use native.Mathlib.Omega.{arith}
 use mathlib.Core.Path.{_≡_}
 use Prim.Native.Nat.{_^_}
 use lib.ListN.{length}
 use Rattle.butterflies.proofs.StoredLaws.{stored-below}
 use Rattle.held_sums.proofs.Rows.{scaled-back}
-use Rattle.held_sums.proofs.read_column.Statement.{statement}
-use Rattle.held_sums.proofs.read_column.Tie as tie
+use Rattle.sums_back.proofs.read_column.Statement.{statement}
+use Rattle.sums_back.proofs.read_column.Tie as tie
 
 reduce-sums-requires : tie.Need-reduce-sums-requires
 reduce-sums-requires c κs = let h = c .before .before .before .before .before .pre in (h .0 .table .pos, omega (arith, h .3, h .4))

@@ -1,14 +1,14 @@
--- `held_sums::read_sums` meets its contract. Assumes nothing.
+-- `sums_back::read_sums` meets its contract. Assumes nothing.
 use borrow.Author.Needs.{needs}
 use native.Mathlib.Omega.{arith}
 use mathlib.Core.Path.{_≡_, refl, ap, subst, _∙_}
 use Prim.Native.Nat.{suc, _*_, _^_}
 use lib.ListN.{length}
 use Rattle.twiddles.proofs.TableTest.{handed, handed-scale}
 use Rattle.held_sums.specs.Sums.{ReadBack}
 use Rattle.held_sums.proofs.HeldLaws.{read-back, read-below}
-use Rattle.held_sums.proofs.read_sums.Statement.{statement}
-use Rattle.held_sums.proofs.read_sums.Tie as tie
+use Rattle.sums_back.proofs.read_sums.Statement.{statement}
+use Rattle.sums_back.proofs.read_sums.Tie as tie
 
 exponent-requires : tie.Need-exponent-requires
 exponent-requires c κs = c .before .before .before .before .pre .0 .degree
