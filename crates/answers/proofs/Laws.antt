@@ -86,19 +86,20 @@ unfolding _orElse_
 before zero x e = (refl, e)
 before (suc a) x e = absurd (omega arith)
 
--- A number that no check has comes from what stands behind them.
-pub check-le : (t : Bool) (k most : ℕ) → k ≤ most → cond t 0 k ≤ most
-check-le true k most h = omega arith
-check-le false k most h = h
+-- A check gives 0 or its own number, so it gives no other n; nor do two in one.
+pub check-other : (t : Bool) (k n : ℕ) → 1 ≤ n → (k ≡ n → ⊥) → cond t 0 k ≡ n → ⊥
+check-other true k n some other e = omega arith
+check-other false k n some other e = other e
 
-pub first-le : (a b most : ℕ) → a ≤ most → b ≤ most → first a b ≤ most
-first-le zero b most ha hb = hb
-first-le (suc a) b most ha hb = ha
+pub first-other : (a b n : ℕ) → (a ≡ n → ⊥) → (b ≡ n → ⊥) → first a b ≡ n → ⊥
+first-other zero b n ha hb = hb
+first-other (suc a) b n ha hb = ha
 
-pub past-larger : (a most : ℕ) (x : Answer) → a ≤ most → number (a orElse x) ≡ suc most → (a ≡ 0) × (number x ≡ suc most)
+-- Behind a check that does not give n, the answer n comes of the rest.
+pub past-other : (a n : ℕ) (x : Answer) → (a ≡ n → ⊥) → number (a orElse x) ≡ n → (a ≡ 0) × (number x ≡ n)
 unfolding _orElse_
-past-larger zero most x low e = (refl, e)
-past-larger (suc a) most x low e = absurd (omega arith)
+past-other zero n x other e = (refl, e)
+past-other (suc a) n x other e = absurd (other e)
 
 -- ---- each word below a limit
 

@@ -9,10 +9,14 @@ use native.Mathlib.Omega.{arith}
 use lib.ListN.{length, getD}
 use Rattle.torus.specs.Sum.{sum}
 use Rattle.torus.specs.Bytes.{words}
-use Rattle.answers.specs.Answers.{number, bound}
+use Rattle.answers.specs.Answers.{bound}
+use Rattle.trgsw.specs.declared.Parameters.{Parameters}
+use Rattle.lookup.specs.declared.Numbers.{Numbers}
+use Rattle.lookup.specs.Numbers.{parameters}
 use Rattle.lookup.specs.Tree.{tree, entryNumber}
 use Rattle.lookup.specs.Lookup.{entryClasses, charges}
-use Rattle.lookup.specs.Calls.{lookup}
+use Rattle.lookup.specs.Job.{Job, declaring}
+use Rattle.lookup.specs.Calls.{noiseBound, lookup, IsAccepted}
 use Rattle.lookup.proofs.Accepted.{Findable, lookup-accepted, lookup-accepts}
 use Rattle.course.specs.Definitions.{counted, deepest}
 use Rattle.course.proofs.Lesson3.{charge-mono}
@@ -26,8 +30,11 @@ pub entry-five : entryNumber bits 3 ≡ 5
 unfolding entryNumber sum
 entry-five = refl
 
+abbrev pub pairs : Numbers
+pairs = record { N = 2; g = 8; L = 2; M = 16; s = 2; d = 3 }
+
 pub classes-of-five :
-    entryClasses 2 (entryNumber bits 3) (0 ∷ 1 ∷ 2 ∷ 3 ∷ 4 ∷ 5 ∷ 6 ∷ 7 ∷ 8 ∷ 9 ∷ 10 ∷ 11 ∷ 12 ∷ 13 ∷ 14 ∷ 15 ∷ []) ≡ 10 ∷ 11 ∷ []
+    entryClasses pairs (entryNumber bits 3) (0 ∷ 1 ∷ 2 ∷ 3 ∷ 4 ∷ 5 ∷ 6 ∷ 7 ∷ 8 ∷ 9 ∷ 10 ∷ 11 ∷ 12 ∷ 13 ∷ 14 ∷ 15 ∷ []) ≡ 10 ∷ 11 ∷ []
 unfolding entryNumber sum
 classes-of-five = refl
 
@@ -50,28 +57,23 @@ tree-deepest zero t = refl
 tree-deepest (suc d) t = omega (arith, tree-deepest d (2 * t), tree-deepest d (2 * t + 1))
 
 -- Exercise 4.4. The bound does not fall when amplitudes rise.
-pub charges-mono : (N k g L W : ℕ) (As Bs : List ℕ) (d : ℕ) → ((i : ℕ) → i < d → getD As i 0 ≤ getD Bs i 0)
-    → charges N k g L W As d ≤ charges N k g L W Bs d
+pub charges-mono : (p : Parameters) (As Bs : List ℕ) (d : ℕ) → ((i : ℕ) → i < d → getD As i 0 ≤ getD Bs i 0)
+    → charges p As d ≤ charges p Bs d
 unfolding charges sum
-charges-mono N k g L W As Bs zero h = le-refl 0
-charges-mono N k g L W As Bs (suc d) h =
-    let rest : charges N k g L W As d ≤ charges N k g L W Bs d = charges-mono N k g L W As Bs d (λ i l. h i (omega arith)) in
-    omega (arith, rest, charge-mono N k g L W (getD As d 0) (getD Bs d 0) (h d (omega arith)))
+charges-mono p As Bs zero h = le-refl 0
+charges-mono p As Bs (suc d) h =
+    let rest : charges p As d ≤ charges p Bs d = charges-mono p As Bs d (λ i l. h i (omega arith)) in
+    omega (arith, rest, charge-mono (p .N) (p .k) (p .g) (p .L) (p .W) (getD As d 0) (getD Bs d 0) (h d (omega arith)))
 
 -- Exercise 4.5. If a lookup is accepted, so is the same lookup with smaller amplitudes, and its bound is no greater.
-pub smaller-accepted : (N g L M s d : ℕ) (blocks smaller amplitudes classes sample work : List ℕ)
-    → number (lookup N g L M s d blocks amplitudes classes sample work) ≡ 0
-    → length smaller ≡ length amplitudes
-    → ((i : ℕ) → i < d → getD (words smaller) i 0 ≤ getD (words amplitudes) i 0)
-    → (number (lookup N g L M s d blocks smaller classes sample work) ≡ 0)
-    × (bound (lookup N g L M s d blocks smaller classes sample work)
-    ≤ bound (lookup N g L M s d blocks amplitudes classes sample work))
-smaller-accepted N g L M s d blocks smaller amplitudes classes sample work e size less =
-    let ok : Findable N g L M s d blocks amplitudes classes sample work =
-    lookup-accepted N g L M s d blocks amplitudes classes sample work e in
-    let less-noise : charges N 1 g L N (words smaller) d ≤ charges N 1 g L N (words amplitudes) d =
-    charges-mono N 1 g L N (words smaller) (words amplitudes) d less in
-    let fit : Findable N g L M s d blocks smaller classes sample work = record {
+pub smaller-accepted : (j : Job) → IsAccepted j → (smaller : List ℕ) → length smaller ≡ length (j .amplitudes)
+    → ((i : ℕ) → i < j .numbers .d → getD (words smaller) i 0 ≤ getD (words (j .amplitudes)) i 0)
+    → IsAccepted (declaring j smaller) × (bound (lookup (declaring j smaller)) ≤ bound (lookup j))
+smaller-accepted j e smaller size less =
+    let ok : Findable j = lookup-accepted j e in
+    let less-noise : noiseBound (declaring j smaller) ≤ noiseBound j =
+    charges-mono (parameters (j .numbers)) (words smaller) (words (j .amplitudes)) (j .numbers .d) less in
+    let fit : Findable (declaring j smaller) = record {
       job = record {
         numbers = ok .job .numbers;
         lengths = record {
@@ -85,6 +87,4 @@ smaller-accepted N g L M s d blocks smaller amplitudes classes sample work e siz
       };
       quiet = omega (arith, less-noise, ok .quiet);
     } in
-    let with-smaller = lookup-accepts N g L M s d blocks smaller classes sample work fit in
-    let with-given = lookup-accepts N g L M s d blocks amplitudes classes sample work ok in
-    rw (with-smaller, with-given) (refl, less-noise)
+    rw (lookup-accepts (declaring j smaller) fit, lookup-accepts j ok) (refl, less-noise)

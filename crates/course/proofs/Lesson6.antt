@@ -18,8 +18,11 @@ use Rattle.trlwe.proofs.Accepted.{encrypt-accepted}
 use Rattle.trlwe.proofs.RoundTrip.{round-trip}
 use Rattle.lwe.specs.Calls.{extract, extractScalar, decryptScalar, decryptScalarClass}
 use Rattle.lwe.proofs.ExtractedClass.{extract-class}
-use Rattle.trgsw.specs.External.{charge}
+use Rattle.trgsw.specs.declared.Parameters.{Parameters}
+use Rattle.lookup.specs.Numbers.{parameters}
+use Rattle.trgsw.specs.Parameters.{charge}
 use Rattle.lookup.specs.Lookup.{charges}
+use Rattle.lookup.specs.Job.{Job}
 use Rattle.lookup.specs.Calls.{lookup}
 use Rattle.lookup.proofs.Accepted.{Wellformed, lookup-noise}
 use Rattle.course.specs.Definitions.{negative, equalCharges, negateCoefficient, negateCoefficientSlice}
@@ -74,21 +77,18 @@ equal-accepted M d c e =
 
 -- Exercise 6.6. `equalCharges` answers as the lookup does: if all d amplitudes are A and refusals 1 to 7 are passed, the
 -- lookup's whole answer is that of `equalCharges` with the charge of A.
-pub charges-equal : (N g L A d : ℕ) (As : List ℕ) → ((i : ℕ) → i < d → getD As i 0 ≡ A)
-    → charges N 1 g L N As d ≡ d * charge N 1 g L N A
+pub charges-equal : (p : Parameters) (A d : ℕ) (As : List ℕ) → ((i : ℕ) → i < d → getD As i 0 ≡ A) → charges p As d ≡ d * charge p A
 unfolding charges
-charges-equal N g L A d As same =
-    sum-cong d _ (λ i. charge N 1 g L N A) (λ i l. ap (charge N 1 g L N) (same i l)) ∙ sum-const d (charge N 1 g L N A)
+charges-equal p A d As same = sum-cong d _ (λ i. charge p A) (λ i l. ap (charge p) (same i l)) ∙ sum-const d (charge p A)
 
-pub lookup-equal : (N g L M s d A : ℕ) (blocks amplitudes classes sample work : List ℕ)
-    → Wellformed N g L M s d blocks amplitudes classes sample work
-    → ((i : ℕ) → i < d → getD (words amplitudes) i 0 ≡ A)
-    → lookup N g L M s d blocks amplitudes classes sample work ≡ equalCharges M d (charge N 1 g L N A)
+pub lookup-equal : (j : Job) (A : ℕ) → let x = j .numbers in Wellformed j → ((i : ℕ) → i < x .d → getD (words (j .amplitudes)) i 0 ≡ A)
+    → lookup j ≡ equalCharges (x .M) (x .d) (charge (parameters x) A)
 unfolding equalCharges
-lookup-equal N g L M s d A blocks amplitudes classes sample work ok same =
-    lookup-noise N g L M s d blocks amplitudes classes sample work ok
-    ∙ ap (λ b. noise M b (2 ^ d - 1)) (charges-equal N g L A d (words amplitudes) same)
-    ∙ sym (went-on _ _ (class-number-met M (ok .numbers .class-number)) ∙ went-on _ _ (depth-met d (ok .numbers .depth)))
+lookup-equal j A ok same =
+    let x = j .numbers in
+    lookup-noise j ok
+    ∙ ap (λ b. noise (x .M) b (2 ^ x .d - 1)) (charges-equal (parameters x) A (x .d) (words (j .amplitudes)) same)
+    ∙ sym (went-on _ _ (class-number-met (x .M) (ok .numbers .class-number)) ∙ went-on _ _ (depth-met (x .d) (ok .numbers .depth)))
 
 -- Exercise 6.7. Write a call in small, `negate_coefficient`: it judges N, p and the length of a slice, and negates coefficient
 -- p in the slice, or refuses and changes nothing. Its contract has no premise. Compute first what `negateCoefficient` says of

@@ -10,8 +10,9 @@ use borrow.Author.Tests.{leb-true, eqb-true, le-leb, eq-eqb}
 use Rattle.torus.proofs.Tests.{both, held}
 use Rattle.answers.specs.Checks as Check
 use Rattle.answers.proofs.Laws.{first-none, first-met, first-passed, exact-held, exact-met}
-use Rattle.trgsw.specs.Block.{blockSize}
-use Rattle.lookup.specs.Numbers.{LawfulNumbers}
+use Rattle.lookup.specs.declared.Numbers.{Numbers}
+use Rattle.lookup.specs.Numbers.{LawfulNumbers, parameters}
+use Rattle.trgsw.specs.Parameters.{blockSize}
 use Rattle.lookup.proofs.Passed.{numbers-held, numbers-met}
 use Rattle.jobfile.specs.Reader.{behind, tablePart, readJob, Begins, beginning, fileSize, tableCount, sections, fileRefusal}
 
@@ -41,26 +42,26 @@ five-five true true some = absurd (some refl)
 five-five true false some = refl
 five-five false t some = refl
 
-pub record Fits (N L s d : ℕ) (file : List ℕ) : Type 0 where
-  pub size : length file ≡ 4 * fileSize N L s d
-  pub count : getD (tablePart (blockSize N 1 L) d (behind file)) 0 0 ≡ s * 2 ^ d
+pub record Fits (x : Numbers) (file : List ℕ) : Type 0 where
+  pub size : length file ≡ 4 * fileSize x
+  pub count : getD (tablePart (blockSize (parameters x)) (x .d) (behind file)) 0 0 ≡ x .s * 2 ^ x .d
 
-pub sections-held : (N L s d : ℕ) (file : List ℕ) → sections N L s d file ≡ 0 → Fits N L s d file
-sections-held N L s d file e =
-    let p = first-none (Check.exact (length file) (fileSize N L s d)) _ e in
+pub sections-held : (x : Numbers) (file : List ℕ) → sections x file ≡ 0 → Fits x file
+sections-held x file e =
+    let p = first-none (Check.exact (length file) (fileSize x)) _ e in
     record { size = exact-held _ _ (p .0); count = eqb-true _ _ (held _ 0 4 (p .1) .0) }
 
-pub sections-met : (N L s d : ℕ) (file : List ℕ) → Fits N L s d file → sections N L s d file ≡ 0
-sections-met N L s d file ok =
-    let count : tableCount N L s d file ≡ 0 = simp (eq-eqb _ _ (ok .count)) in
+pub sections-met : (x : Numbers) (file : List ℕ) → Fits x file → sections x file ≡ 0
+sections-met x file ok =
+    let count : tableCount x file ≡ 0 = simp (eq-eqb _ _ (ok .count)) in
     first-met _ _ (exact-met _ _ (ok .size)) count
 
 -- ---- all of them
 
 pub record Passes (file : List ℕ) : Type 0 where
   pub begins : Begins file
-  pub lawful : let j = readJob file in LawfulNumbers (j .N) (j .g) (j .L) (j .M) (j .s) (j .d)
-  pub fits : let j = readJob file in Fits (j .N) (j .L) (j .s) (j .d) file
+  pub lawful : LawfulNumbers (readJob file .numbers)
+  pub fits : Fits (readJob file .numbers) file
 
 pub refusal-held : (file : List ℕ) → fileRefusal file ≡ 0 → Passes file
 unfolding fileRefusal
@@ -69,26 +70,26 @@ refusal-held file e =
     let rest = first-none _ _ (begins .1) in
     record {
       begins = beginning-held file (begins .0);
-      lawful = numbers-held _ _ _ _ _ _ (rest .0);
-      fits = sections-held _ _ _ _ file (rest .1);
+      lawful = numbers-held _ (rest .0);
+      fits = sections-held _ file (rest .1);
     }
 
 pub refusal-met : (file : List ℕ) → Passes file → fileRefusal file ≡ 0
 unfolding fileRefusal
 refusal-met file ok =
     first-met _ _ (beginning-met file (ok .begins))
-    (first-met _ _ (numbers-met _ _ _ _ _ _ (ok .lawful)) (sections-met _ _ _ _ file (ok .fits)))
+    (first-met _ _ (numbers-met _ (ok .lawful)) (sections-met _ file (ok .fits)))
 
 -- Where the beginning and the numbers pass, and the sections do not, the number is 5.
-sections-five : (N L s d : ℕ) (file : List ℕ) → (sections N L s d file ≡ 0 → ⊥) → sections N L s d file ≡ 5
-sections-five N L s d file some =
-    five-five (eqb (length file) (4 * fileSize N L s d)) (eqb (getD (tablePart (blockSize N 1 L) d (behind file)) 0 0) (s * 2 ^ d)) some
+sections-five : (x : Numbers) (file : List ℕ) → (sections x file ≡ 0 → ⊥) → sections x file ≡ 5
+sections-five x file some =
+    five-five (eqb (length file) (4 * fileSize x)) (eqb (getD (tablePart (blockSize (parameters x)) (x .d) (behind file)) 0 0) (x .s * 2 ^ x .d)) some
 
-pub refused-sections : (file : List ℕ) → let j = readJob file in Begins file → LawfulNumbers (j .N) (j .g) (j .L) (j .M) (j .s) (j .d)
+pub refused-sections : (file : List ℕ) → Begins file → LawfulNumbers (readJob file .numbers)
     → (fileRefusal file ≡ 0 → ⊥) → fileRefusal file ≡ 5
 unfolding fileRefusal
 refused-sections file begins lawful some =
     let b = beginning-met file begins in
-    let n = numbers-met _ _ _ _ _ _ lawful in
+    let n = numbers-met _ lawful in
     sym (first-passed _ _ _ b (first-passed _ _ _ n
-    (sym (sections-five _ _ _ _ file (λ e. some (first-met _ _ b (first-met _ _ n e)))))))
+    (sym (sections-five _ file (λ e. some (first-met _ _ b (first-met _ _ n e)))))))

@@ -1,7 +1,7 @@
 -- A file made of a whole job reads back as that job, and passes the checks if its numbers are lawful and it is not too large; and a file
 -- that passes the checks is made of the job that is read from it.
 -- Assumes nothing.
-use mathlib.Core.Path.{_≡_, ap, ap₂, sym, subst, _∙_}
+use mathlib.Core.Path.{_≡_, refl, ap, ap₂, sym, subst, _∙_}
 use mathlib.Core.List.{List, _∷_, _++_}
 use Prim.Native.Nat.{ℕ, _+_, _*_, _^_, _≤_, _<_}
 use native.Mathlib.Nat.{le-of-eq}
@@ -14,20 +14,21 @@ use Rattle.torus.specs.Bytes.{AreBytes, words, bytes}
 use Rattle.torus.proofs.Lists.{length-tabulate, tabulate-at, tabulate-cong, tabulate-self, tabulate-front, tabulate-below, drop-below}
 use Rattle.torus.proofs.Parts.{length-words, length-bytes, words-bytes, words-word, bytes-words, bytes-are}
 use Rattle.torus.proofs.Joined.{Each, chunk-inside, length-chunk, chunk-joined, length-joined, joined-cong, chunk-below, chunk-append, joined-below, joined-chunks}
-use Rattle.trgsw.specs.Block.{blockSize}
+use Rattle.lookup.specs.Numbers.{LawfulNumbers, parameters}
+use Rattle.trgsw.specs.Parameters.{blockSize}
 use Rattle.lookup.specs.Lookup.{selector}
-use Rattle.lookup.specs.Numbers.{LawfulNumbers}
-use Rattle.jobfile.specs.Job.{Job, sectionThree, fileWords, jobFile, Whole, WellFormed}
+use Rattle.lookup.specs.Job.{Job}
+use Rattle.jobfile.specs.File.{sectionThree, fileWords, jobFile, Whole, WellFormed}
 use Rattle.jobfile.specs.Reader.{behind, selectorPart, tablePart, readBlocks, readAmplitudes, readClasses, readJob, fileSize, fileRefusal}
 use Rattle.jobfile.proofs.Sections.{blocks-each}
 use Rattle.jobfile.proofs.Passed.{Fits, Passes, refusal-held, refusal-met}
 
 -- The words of a block of the job, and the part of selector i in its file.
 abbrev size : Job → ℕ
-size j = blockSize (j .N) 1 (j .L)
+size j = blockSize (parameters (j .numbers))
 
 abbrev made : (j : Job) (i : ℕ) → List ℕ
-made j i = getD (j .amplitudes) i 0 ∷ selector (j .N) 1 (j .L) i (j .blocks)
+made j i = getD (words (j .amplitudes)) i 0 ∷ selector (parameters (j .numbers)) i (words (j .blocks))
 
 -- ---- a file that is made of a job
 
@@ -37,63 +38,75 @@ module _ (j : Job) (ok : Whole j) where
   unfolding jobFile
   made-words = words-bytes (fileWords j) (ok .of-words)
 
-  made-each : Each (j .d) (1 + size j) (made j)
+  blocks-words : length (words (j .blocks)) ≡ j .numbers .d * size j
+  blocks-words = omega (arith, length-words (j .blocks), ok .blocks-length)
+
+  made-each : Each (j .numbers .d) (1 + size j) (made j)
   made-each i l =
-      let block : length (selector (j .N) 1 (j .L) i (j .blocks)) ≡ size j =
-      length-chunk (size j) i (j .blocks) (omega (arith, chunk-inside i (j .d) (size j) l, ok .blocks-length)) in
+      let block : length (selector (parameters (j .numbers)) i (words (j .blocks))) ≡ size j =
+      length-chunk (size j) i (words (j .blocks)) (omega (arith, chunk-inside i (j .numbers .d) (size j) l, blocks-words)) in
       omega arith
 
   -- What stands behind the count d.
   abbrev rest : List ℕ
-  rest = joined (j .d) (made j) ++ sectionThree j
+  rest = joined (j .numbers .d) (made j) ++ sectionThree j
 
-  made-length : length (joined (j .d) (made j)) ≡ j .d * (1 + size j)
-  made-length = length-joined (j .d) (1 + size j) (made j) made-each
+  made-length : length (joined (j .numbers .d) (made j)) ≡ j .numbers .d * (1 + size j)
+  made-length = length-joined (j .numbers .d) (1 + size j) (made j) made-each
 
-  made-part : (i : ℕ) → i < j .d → selectorPart (size j) i rest ≡ made j i
+  made-part : (i : ℕ) → i < j .numbers .d → selectorPart (size j) i rest ≡ made j i
   made-part i l =
-      chunk-append (1 + size j) i (joined (j .d) (made j)) (sectionThree j)
-      (omega (arith, chunk-inside i (j .d) (1 + size j) l, made-length))
-      ∙ chunk-joined (j .d) (1 + size j) (made j) made-each i l
+      chunk-append (1 + size j) i (joined (j .numbers .d) (made j)) (sectionThree j)
+      (omega (arith, chunk-inside i (j .numbers .d) (1 + size j) l, made-length))
+      ∙ chunk-joined (j .numbers .d) (1 + size j) (made j) made-each i l
 
-  made-table : tablePart (size j) (j .d) rest ≡ sectionThree j
-  made-table = drop-at (joined (j .d) (made j)) (sectionThree j) (j .d * (1 + size j)) made-length
+  made-table : tablePart (size j) (j .numbers .d) rest ≡ sectionThree j
+  made-table = drop-at (joined (j .numbers .d) (made j)) (sectionThree j) (j .numbers .d * (1 + size j)) made-length
 
-  made-blocks : readBlocks (size j) (j .d) rest ≡ j .blocks
+  made-blocks : readBlocks (size j) (j .numbers .d) rest ≡ words (j .blocks)
   made-blocks =
-      joined-cong (j .d) _ (λ i. chunk (size j) i (j .blocks)) (λ i l. ap (drop 1) (made-part i l))
-      ∙ joined-chunks (j .d) (size j) (j .blocks)
-      ∙ take-all (j .d * size j) (j .blocks) (le-of-eq (ok .blocks-length))
+      joined-cong (j .numbers .d) _ (λ i. chunk (size j) i (words (j .blocks))) (λ i l. ap (drop 1) (made-part i l))
+      ∙ joined-chunks (j .numbers .d) (size j) (words (j .blocks))
+      ∙ take-all (j .numbers .d * size j) (words (j .blocks)) (le-of-eq blocks-words)
 
-  made-amplitudes : readAmplitudes (size j) (j .d) rest ≡ j .amplitudes
+  made-amplitudes : readAmplitudes (size j) (j .numbers .d) rest ≡ words (j .amplitudes)
   made-amplitudes =
-      tabulate-cong (j .d) _ (λ i. getD (j .amplitudes) i 0) (λ i l. ap (λ p. getD p 0 0) (made-part i l))
-      ∙ tabulate-self (j .d) (j .amplitudes) (ok .amplitudes-length)
+      tabulate-cong (j .numbers .d) _ (λ i. getD (words (j .amplitudes)) i 0) (λ i l. ap (λ p. getD p 0 0) (made-part i l))
+      ∙ tabulate-self (j .numbers .d) (words (j .amplitudes)) (omega (arith, length-words (j .amplitudes), ok .amplitudes-length))
 
-  made-classes : readClasses (size j) (j .d) rest ≡ j .classes
+  made-classes : readClasses (size j) (j .numbers .d) rest ≡ words (j .classes)
   made-classes = ap (drop 1) made-table
 
   -- "reads back as exactly those parts"
   pub read-made : readJob (jobFile j) ≡ j
   unfolding readJob
-  read-made = rw (made-words, made-blocks, made-amplitudes, made-classes)
+  read-made = rw (
+    made-words,
+    made-blocks,
+    made-amplitudes,
+    made-classes,
+    bytes-words _ (j .blocks) (ok .blocks-length) (ok .blocks-bytes),
+    bytes-words _ (j .amplitudes) (ok .amplitudes-length) (ok .amplitudes-bytes),
+    bytes-words _ (j .classes) (ok .classes-length) (ok .classes-bytes),
+    ← ok .lent,
+  )
 
   -- How many words and bytes it has.
-  words-length : length (fileWords j) ≡ fileSize (j .N) (j .L) (j .s) (j .d)
-  words-length = omega (arith, length-append (joined (j .d) (made j)) (sectionThree j), made-length, ok .classes-length)
+  words-length : length (fileWords j) ≡ fileSize (j .numbers)
+  words-length = omega (arith, length-append (joined (j .numbers .d) (made j)) (sectionThree j), made-length, length-words (j .classes), ok .classes-length)
 
-  made-size : length (jobFile j) ≡ 4 * fileSize (j .N) (j .L) (j .s) (j .d)
+  made-size : length (jobFile j) ≡ 4 * fileSize (j .numbers)
   unfolding jobFile
   made-size = length-bytes (fileWords j) ∙ ap (λ n. 4 * n) words-length
 
-  made-fits : Fits (j .N) (j .L) (j .s) (j .d) (jobFile j)
+  made-fits : Fits (j .numbers) (jobFile j)
   made-fits = record {
     size = made-size;
-    count = ap (λ ws. getD (tablePart (size j) (j .d) (drop 7 ws)) 0 0) made-words ∙ ap (λ t. getD t 0 0) made-table;
+    count = ap (λ ws. getD (tablePart (size j) (j .numbers .d) (drop 7 ws)) 0 0) made-words ∙ ap (λ t. getD t 0 0) made-table;
   }
 
   -- Nothing refuses it.
-  pub made-passes : LawfulNumbers (j .N) (j .g) (j .L) (j .M) (j .s) (j .d) → length (jobFile j) ≤ 65536 → fileRefusal (jobFile j) ≡ 0
+  pub made-passes : LawfulNumbers (j .numbers) → length (jobFile j) ≤ 65536 → fileRefusal (jobFile j) ≡ 0
   made-passes lawful most = refusal-met (jobFile j) (record {
     begins = record {
       least = omega (arith, made-size);
@@ -129,14 +142,6 @@ module _ (b d n : ℕ) (ws : List ℕ) (whole : length ws ≡ d * (1 + b) + (1 +
   selector-again i l =
       ap₂ _∷_ (tabulate-at d _ i l) (chunk-joined d b _ each i l) ∙ tabulate-front 1 (selectorPart b i ws) (omega (arith, part-length i l))
 
-  -- What is read of a selector is its part of section two.
-  rest-again : joined d (λ i. getD (readAmplitudes b d ws) i 0 ∷ chunk b i (readBlocks b d ws)) ++ (getD (tablePart b d ws) 0 0 ∷ readClasses b d ws) ≡ ws
-  unfolding tabulate
-  rest-again =
-      ap₂ _++_ (joined-cong d _ (λ i. selectorPart b i ws) selector-again ∙ joined-chunks d (1 + b) ws)
-      (tabulate-front 1 (tablePart b d ws) (omega (arith, table-length)))
-      ∙ take-append-drop (d * (1 + b)) ws
-
 -- What is read of words is words.
 module _ (b d : ℕ) (ws : List ℕ) (below : (i : ℕ) → getD ws i 0 < 2 ^ 32) where
   some : 0 < 2 ^ 32
@@ -154,75 +159,73 @@ module _ (b d : ℕ) (ws : List ℕ) (below : (i : ℕ) → getD ws i 0 < 2 ^ 32
   classes-below : (i : ℕ) → getD (readClasses b d ws) i 0 < 2 ^ 32
   classes-below = drop-below (2 ^ 32) 1 (tablePart b d ws) (drop-below (2 ^ 32) (d * (1 + b)) ws below)
 
-pub read-below : (file : List ℕ) → AreBytes file → ((i : ℕ) → getD (readJob file .blocks) i 0 < 2 ^ 32)
-    × ((i : ℕ) → getD (readJob file .amplitudes) i 0 < 2 ^ 32) × ((i : ℕ) → getD (readJob file .classes) i 0 < 2 ^ 32)
-unfolding readJob
-read-below file byte =
-    let b = size (readJob file) in
-    let d = readJob file .d in
-    let rest = drop 7 (words file) in
-    let below : (i : ℕ) → getD rest i 0 < 2 ^ 32 = drop-below (2 ^ 32) 7 (words file) (words-word file byte) in
-    (blocks-below b d rest below, amplitudes-below b d rest below, classes-below b d rest below)
-
--- So a whole job has words.
-pub made-below : (j : Job) → Whole j → ((i : ℕ) → getD (j .blocks) i 0 < 2 ^ 32)
-    × ((i : ℕ) → getD (j .amplitudes) i 0 < 2 ^ 32) × ((i : ℕ) → getD (j .classes) i 0 < 2 ^ 32)
-unfolding jobFile
-made-below j whole = rw (read-made j whole) at (read-below (jobFile j) (bytes-are (fileWords j)))
-
 module _ (file : List ℕ) (e : fileRefusal file ≡ 0) where
   ok : Passes file
   ok = refusal-held file e
 
-  behind-length : length (behind file) ≡ readJob file .d * (1 + size (readJob file)) + (1 + readJob file .s * 2 ^ readJob file .d)
+  behind-length : let x = readJob file .numbers in length (behind file) ≡ x .d * (1 + size (readJob file)) + (1 + x .s * 2 ^ x .d)
   behind-length = length-drop 7 (words file) ∙ omega (arith, length-words file, ok .fits .size)
 
-  -- The amplitude and the block of selector i are those of its part of section two.
-  pub selector-read : (i : ℕ) → i < readJob file .d
-      → getD (readJob file .amplitudes) i 0 ∷ selector (readJob file .N) 1 (readJob file .L) i (readJob file .blocks)
-      ≡ selectorPart (size (readJob file)) i (behind file)
-  unfolding readJob
-  selector-read i l = selector-again _ _ _ (behind file) behind-length i l
+  module _ (byte : AreBytes file) where
+    behind-below : (i : ℕ) → getD (behind file) i 0 < 2 ^ 32
+    behind-below = drop-below (2 ^ 32) 7 (words file) (words-word file byte)
 
-  -- The file's words are those of the job that is read from it.
-  words-again : fileWords (readJob file) ≡ words file
-  unfolding readJob tabulate
-  words-again =
-      let ws = words file in
-      let j = readJob file in
-      ap (λ c. 5 ∷ j .N ∷ j .g ∷ j .L ∷ j .M ∷ j .s ∷ j .d ∷ (joined (j .d) (made j) ++ (c ∷ j .classes))) (sym (ok .fits .count))
-      ∙ ap₂ (λ f r. f ∷ j .N ∷ j .g ∷ j .L ∷ j .M ∷ j .s ∷ j .d ∷ r) (sym (ok .begins .five)) (rest-again (size j) (j .d) (j .s * 2 ^ j .d) (behind file) behind-length)
-      ∙ tabulate-front 7 ws (omega (arith, length-words file, ok .begins .least))
+    -- The words of the job's slices are those that are read.
+    blocks-again : words (readJob file .blocks) ≡ readBlocks (size (readJob file)) (readJob file .numbers .d) (behind file)
+    unfolding readJob
+    blocks-again = words-bytes _ (blocks-below (size (readJob file)) (readJob file .numbers .d) (behind file) behind-below)
 
-  read-blocks-length : length (readJob file .blocks) ≡ readJob file .d * size (readJob file)
-  unfolding readJob
-  read-blocks-length = blocks-length _ _ _ (behind file) behind-length
+    amplitudes-again : words (readJob file .amplitudes) ≡ readAmplitudes (size (readJob file)) (readJob file .numbers .d) (behind file)
+    unfolding readJob
+    amplitudes-again = words-bytes _ (amplitudes-below (size (readJob file)) (readJob file .numbers .d) (behind file) behind-below)
 
-  read-amplitudes-length : length (readJob file .amplitudes) ≡ readJob file .d
-  unfolding readJob
-  read-amplitudes-length = length-tabulate _ _
+    classes-again : words (readJob file .classes) ≡ readClasses (size (readJob file)) (readJob file .numbers .d) (behind file)
+    unfolding readJob
+    classes-again = words-bytes _ (classes-below (size (readJob file)) (readJob file .numbers .d) (behind file) behind-below)
 
-  read-classes-length : length (readJob file .classes) ≡ readJob file .s * 2 ^ readJob file .d
-  unfolding readJob
-  read-classes-length = classes-length _ _ _ (behind file) behind-length
+    -- The amplitude and the block of selector i are those of its part of section two.
+    pub selector-read : (i : ℕ) → i < readJob file .numbers .d → made (readJob file) i ≡ selectorPart (size (readJob file)) i (behind file)
+    selector-read i l =
+        ap₂ (λ a b. getD a i 0 ∷ chunk (size (readJob file)) i b) amplitudes-again blocks-again ∙ selector-again _ _ _ (behind file) behind-length i l
 
-  -- What passes the checks is well-formed: it is made of the job that is read from it.
-  pub passes-well-formed : AreBytes file → WellFormed file
-  unfolding jobFile
-  passes-well-formed byte =
-      let j = readJob file in
-      record {
-        job = j;
-        whole = record {
-          blocks-length = read-blocks-length;
-          amplitudes-length = read-amplitudes-length;
-          classes-length = read-classes-length;
-          of-words = λ i. subst (λ ws. getD ws i 0 < 2 ^ 32) (sym words-again) (words-word file byte i);
-        };
-        lawful = ok .lawful;
-        made = sym (bytes-words (fileSize (j .N) (j .L) (j .s) (j .d)) file (ok .fits .size) byte) ∙ ap bytes (sym words-again);
-        fits = ok .begins .most;
-      }
+    -- The file's words are those of the job that is read from it.
+    words-again : fileWords (readJob file) ≡ words file
+    unfolding readJob tabulate
+    words-again =
+        let j = readJob file in
+        let x = j .numbers in
+        let part : ℕ → List ℕ = λ i. selectorPart (size j) i (behind file) in
+        ap₂ (λ two three. 5 ∷ x .N ∷ x .g ∷ x .L ∷ x .M ∷ x .s ∷ x .d ∷ (two ++ three))
+        (joined-cong (x .d) (made j) part selector-read ∙ joined-chunks (x .d) (1 + size j) (behind file))
+        (ap₂ _∷_ (sym (ok .fits .count)) classes-again ∙ tabulate-front 1 (tablePart (size j) (x .d) (behind file)) (omega (arith, table-length _ _ _ (behind file) behind-length)))
+        ∙ ap₂ (λ f r. f ∷ x .N ∷ x .g ∷ x .L ∷ x .M ∷ x .s ∷ x .d ∷ r) (sym (ok .begins .five)) (take-append-drop (x .d * (1 + size j)) (behind file))
+        ∙ tabulate-front 7 (words file) (omega (arith, length-words file, ok .begins .least))
+
+    read-whole : Whole (readJob file)
+    unfolding readJob
+    read-whole = record {
+      of-words = λ i. subst (λ ws. getD ws i 0 < 2 ^ 32) (sym words-again) (words-word file byte i);
+      blocks-length = length-bytes _ ∙ ap (λ n. 4 * n) (blocks-length _ _ _ (behind file) behind-length);
+      amplitudes-length = length-bytes _ ∙ ap (λ n. 4 * n) (length-tabulate _ _);
+      classes-length = length-bytes _ ∙ ap (λ n. 4 * n) (classes-length _ _ _ (behind file) behind-length);
+      blocks-bytes = bytes-are _;
+      amplitudes-bytes = bytes-are _;
+      classes-bytes = bytes-are _;
+      lent = refl;
+    }
+
+    -- What passes the checks is well-formed: it is made of the job that is read from it.
+    pub passes-well-formed : WellFormed file
+    unfolding jobFile
+    passes-well-formed =
+        let j = readJob file in
+        record {
+          job = j;
+          whole = read-whole;
+          lawful = ok .lawful;
+          made = sym (bytes-words (fileSize (j .numbers)) file (ok .fits .size) byte) ∙ ap bytes (sym words-again);
+          fits = ok .begins .most;
+        }
 
 -- A well-formed file passes the checks, and reads back as the job that it is made of.
 pub well-formed-passes : (file : List ℕ) (w : WellFormed file) → (fileRefusal file ≡ 0) × (readJob file ≡ w .job)

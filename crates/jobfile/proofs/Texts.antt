@@ -12,10 +12,12 @@ use Rattle.answers.specs.Answers.{number, _orElse_}
 use Rattle.answers.specs.declared.Answer.{Answer}
 use Rattle.answers.specs.declared.Answer.the-variants.{Refused}
 use Rattle.answers.proofs.Laws.{before, after-written, after-refused}
+use Rattle.lookup.specs.Numbers.{masks}
+use Rattle.lookup.specs.Calls.{lookup, lookupSample, IsAccepted}
 use Rattle.lookup.proofs.Accuracy.{lookup-length}
 use Rattle.report.specs.Report.{report, answerLines}
 use Rattle.report.proofs.Lines.{report-refused}
-use Rattle.jobfile.specs.Reader.{fileRefusal, readJob, jobLookup, jobLookupSample, jobAnswer, jobSample, Tells}
+use Rattle.jobfile.specs.Reader.{fileRefusal, readJob, jobAnswer, jobSample, Tells}
 use Rattle.jobfile.specs.Output.{output, Shows, Continues}
 use Rattle.jobfile.specs.declared.Outcome.{Outcome}
 use Rattle.jobfile.specs.declared.text.Text.{Text}
@@ -30,19 +32,20 @@ none-or-some (suc n) none some = some (λ e. omega arith)
 
 module _ (file : List ℕ) where
   -- An accepted file has passed the checks, and so has its lookup.
-  pub accepted-lookup : number (jobAnswer file) ≡ 0 → (fileRefusal file ≡ 0) × (number (jobLookup (readJob file)) ≡ 0)
+  pub accepted-lookup : number (jobAnswer file) ≡ 0 → (fileRefusal file ≡ 0) × (IsAccepted (readJob file))
   unfolding jobAnswer
-  accepted-lookup e = before (fileRefusal file) (jobLookup (readJob file)) e
+  accepted-lookup e = before (fileRefusal file) (lookup (readJob file)) e
 
   -- Its sample is the lookup's, of 2·N words; a refused file has none.
-  pub accepted-sample : number (jobAnswer file) ≡ 0 → jobSample file ≡ jobLookupSample (readJob file)
+  pub accepted-sample : number (jobAnswer file) ≡ 0 → jobSample file ≡ lookupSample (readJob file)
   unfolding jobSample
   accepted-sample e = after-written (jobAnswer file) _ _ e
 
-  accepted-size : number (jobAnswer file) ≡ 0 → (length (jobSample file) ≡ 8 * readJob file .N) × (readJob file .N ≤ 1024)
+  accepted-size : number (jobAnswer file) ≡ 0 → (length (jobSample file) ≡ 8 * readJob file .numbers .N) × (readJob file .numbers .N ≤ 1024)
+  unfolding masks
   accepted-size e =
       let p = accepted-lookup e in (
-        ap length (accepted-sample e) ∙ lookup-length _ _ _ _ _ _ _ _ _ _ _ (p .1) ∙ omega arith,
+        ap length (accepted-sample e) ∙ lookup-length _ (p .1) ∙ omega arith,
         refusal-held file (p .0) .lawful .degree .most,
       )
 
@@ -69,7 +72,7 @@ module _ (file : List ℕ) where
   unfolding output
   output-told a s ea es = rw (ea, es)
       (none-or-some (number (jobAnswer file))
-      (λ e. let half : length (jobSample file) / 8 ≡ readJob file .N = omega (arith, accepted-size e) in rw half)
+      (λ e. let half : length (jobSample file) / 8 ≡ readJob file .numbers .N = omega (arith, accepted-size e) in rw half)
       (λ some. report-refused (jobAnswer file) _ _ some ∙ sym (report-refused (jobAnswer file) _ _ some)))
 
   -- A file "over 65,536 bytes" is refused with 5, whatever it holds.

@@ -1,4 +1,4 @@
-pub mod Job
+pub mod File
 pub mod Reader
 pub mod Inner
 pub mod Output

@@ -13,7 +13,7 @@ use Rattle.jobfile.specs.declared.text.Text.{Text}
 -- The answer, and the sample where there is one: its first N words are its mask.
 unfoldable pub output : (file : List ℕ) → List ℕ
 output file =
-    let N = readJob file .N in
+    let N = readJob file .numbers .N in
     let ws = words (jobSample file) in
     report (jobAnswer file) (take N ws) (drop N ws)
 

@@ -5,16 +5,18 @@ use mathlib.Core.Bool.{cond, _&&_}
 use mathlib.Core.List.{List, []}
 use Prim.Native.Nat.{ℕ, _+_, _*_, _%_, _^_, _≤_}
 use lib.Dec.{eqb, leb}
-use lib.ListN.{length, getD, take, drop, replicate}
+use lib.ListN.{length, getD, take, drop}
 use Rattle.torus.specs.Sum.{tabulate, joined, chunk}
 use Rattle.torus.specs.Bytes.{words, bytes}
 use Rattle.answers.specs.Checks as Check
 use Rattle.answers.specs.Answers.{_orElse_, after}
 use Rattle.answers.specs.declared.Answer.{Answer}
-use Rattle.trgsw.specs.Block.{blockSize}
-use Rattle.lookup.specs.Numbers.{numbers}
+use Rattle.lookup.specs.declared.Numbers.{Numbers}
+use Rattle.lookup.specs.Numbers.{parameters, numbers}
+use Rattle.trgsw.specs.Parameters.{blockSize}
+use Rattle.lookup.specs.Job.{Job}
 use Rattle.lookup.specs.Calls.{lookup, lookupSample}
-use Rattle.jobfile.specs.Job.{Job}
+use Rattle.jobfile.specs.File.{fileJob}
 use Rattle.jobfile.specs.declared.Outcome.{Outcome}
 
 -- What stands behind the count d, which is word 6: d selectors, then section three.
@@ -43,19 +45,9 @@ readClasses b d ws = drop 1 (tablePart b d ws)
 unfoldable pub readJob : (file : List ℕ) → Job
 readJob file =
     let ws = words file in
-    let b = blockSize (getD ws 1 0) 1 (getD ws 3 0) in
-    let d = getD ws 6 0 in
-    record {
-      N = getD ws 1 0;
-      g = getD ws 2 0;
-      L = getD ws 3 0;
-      M = getD ws 4 0;
-      s = getD ws 5 0;
-      d = d;
-      blocks = readBlocks b d (behind file);
-      amplitudes = readAmplitudes b d (behind file);
-      classes = readClasses b d (behind file);
-    }
+    let x : Numbers = record { N = getD ws 1 0; g = getD ws 2 0; L = getD ws 3 0; M = getD ws 4 0; s = getD ws 5 0; d = getD ws 6 0 } in
+    let b = blockSize (parameters x) in
+    fileJob x (bytes (readBlocks b (x .d) (behind file))) (bytes (readAmplitudes b (x .d) (behind file))) (bytes (readClasses b (x .d) (behind file)))
 
 -- ---- refusals
 
@@ -72,47 +64,31 @@ pub record Begins (file : List ℕ) : Type 0 where
   pub five : getD (words file) 0 0 ≡ 5
 
 -- The words of a file: a count and five numbers, a count and d selectors, a count and s·2^d classes.
-abbrev pub fileSize : (N L s d : ℕ) → ℕ
-fileSize N L s d = 6 + (1 + d * (1 + blockSize N 1 L)) + (1 + s * 2 ^ d)
+abbrev pub fileSize : Numbers → ℕ
+fileSize x = 6 + (1 + x .d * (1 + blockSize (parameters x))) + (1 + x .s * 2 ^ x .d)
 
 -- "then 5 for any other wrong length or section three count"
-abbrev pub tableCount : (N L s d : ℕ) (file : List ℕ) → ℕ
-tableCount N L s d file = cond (eqb (getD (tablePart (blockSize N 1 L) d (behind file)) 0 0) (s * 2 ^ d)) 0 5
+abbrev pub tableCount : (x : Numbers) (file : List ℕ) → ℕ
+tableCount x file = cond (eqb (getD (tablePart (blockSize (parameters x)) (x .d) (behind file)) 0 0) (x .s * 2 ^ x .d)) 0 5
 
-abbrev pub sections : (N L s d : ℕ) (file : List ℕ) → ℕ
-sections N L s d file = Check.first (Check.exact (length file) (fileSize N L s d)) (tableCount N L s d file)
+abbrev pub sections : (x : Numbers) (file : List ℕ) → ℕ
+sections x file = Check.first (Check.exact (length file) (fileSize x)) (tableCount x file)
 
 -- What refuses a file before its lookup begins, or 0: its beginning, then "Refusals 1 to 4 follow", then its sections.
 unfoldable pub fileRefusal : (file : List ℕ) → ℕ
 fileRefusal file =
-    let j = readJob file in
-    Check.first (beginning file)
-    (Check.first (numbers (j .N) (j .g) (j .L) (j .M) (j .s) (j .d)) (sections (j .N) (j .L) (j .s) (j .d) file))
+    let x = readJob file .numbers in
+    Check.first (beginning file) (Check.first (numbers x) (sections x file))
 
 -- ---- the answer and the sample
 
--- A slice of n words 0, which a lookup is lent to write.
-abbrev pub room : (n : ℕ) → List ℕ
-room n = replicate (4 * n) 0
-
--- What the lookup of a job answers, and what it leaves in the sample's slice.
-abbrev pub jobLookup : Job → Answer
-jobLookup j =
-    lookup (j .N) (j .g) (j .L) (j .M) (j .s) (j .d) (bytes (j .blocks)) (bytes (j .amplitudes)) (bytes (j .classes))
-    (room (2 * j .N)) (room (2 * j .N * (j .d + 1)))
-
-abbrev pub jobLookupSample : Job → List ℕ
-jobLookupSample j =
-    lookupSample (j .N) (j .g) (j .L) (j .M) (j .s) (j .d) (bytes (j .blocks)) (bytes (j .amplitudes)) (bytes (j .classes))
-    (room (2 * j .N)) (room (2 * j .N * (j .d + 1)))
-
 -- What a whole file is answered: "a job is the input of one lookup, lent directly or read from a job file".
 unfoldable pub jobAnswer : (file : List ℕ) → Answer
-jobAnswer file = fileRefusal file orElse jobLookup (readJob file)
+jobAnswer file = fileRefusal file orElse lookup (readJob file)
 
 -- The bytes of the sample that is printed: none where the file is refused.
 unfoldable pub jobSample : (file : List ℕ) → List ℕ
-jobSample file = after (jobAnswer file) (jobLookupSample (readJob file)) []
+jobSample file = after (jobAnswer file) (lookupSample (readJob file)) []
 
 -- What the reader gives tells an answer and the bytes of a sample. What stands behind them in its room is free.
 pub record Tells (r : Outcome) (a : Answer) (bs : List ℕ) : Type 0 where

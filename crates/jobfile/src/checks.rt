@@ -1,21 +1,11 @@
 // The checks that a file must pass before its lookup begins, and its numbers.
+use lookup::Numbers;
 ghost use mathlib.Core.Path.{_≡_};
 ghost use Prim.Native.Nat.{_+_, _*_, _^_, _≤_};
 ghost use lib.ListN.{length, getD};
 ghost use Rattle.torus.specs.Bytes.{words};
-ghost use Rattle.trgsw.specs.Block.{blockSize};
+ghost use Rattle.lookup.specs.Numbers.{LawfulNumbers};
 ghost use Rattle.jobfile.specs.Reader as Reader;
-ghost use Rattle.jobfile.specs.Inner as Inner;
-
-// The numbers of a job, as its file has them.
-pub struct Numbers {
-    pub n: u64,
-    pub g: u64,
-    pub l: u64,
-    pub m: u64,
-    pub s: u64,
-    pub d: u64,
-}
 
 // Word i of the file.
 fn number_at(file: &[u8], i: usize) -> u64
@@ -47,7 +37,7 @@ fn beginning(file: &[u8]) -> u32
 // Words 1 to 6.
 pub fn read_numbers(file: &[u8]) -> Numbers
     requires { ⌜ 28 ≤ length (now file) ⌝ }
-    ensures { λ r. ⌜ Inner.Held r (Reader.readJob (now (file .entry))) ⌝ }
+    ensures { λ r. ⌜ r ≡ Reader.readJob (now (file .entry)) .numbers ⌝ }
 {
     let n = number_at(file, 1);
     let g = number_at(file, 2);
@@ -55,20 +45,19 @@ pub fn read_numbers(file: &[u8]) -> Numbers
     let m = number_at(file, 4);
     let s = number_at(file, 5);
     let d = number_at(file, 6);
-    Numbers { n, g, l, m, s, d }
-}
-
-// The words of a block.
-pub fn block_words(x: Numbers) -> u64
-    requires { ⌜ (x .n ≤ 1024) × (x .l ≤ 32) ⌝ }
-    ensures { λ r. ⌜ (r ≡ blockSize (x .n) 1 (x .l)) × (r ≤ 131072) ⌝ }
-{
-    4 * x.l * x.n
+    Numbers {
+        N: n,
+        g,
+        L: l,
+        M: m,
+        s,
+        d,
+    }
 }
 
 // The number of classes in the table: s for each of 2^d entries.
 fn table_words(x: Numbers) -> u64
-    requires { ⌜ (x .s ≤ 1024) × (x .d ≤ 10) ⌝ }
+    requires { ⌜ LawfulNumbers x ⌝ }
     ensures { λ r. ⌜ (r ≡ x .s * 2 ^ x .d) × (r ≤ 1048576) ⌝ }
 {
     x.s * lookup::entries(x.d)
@@ -76,10 +65,10 @@ fn table_words(x: Numbers) -> u64
 
 // 5, for any other length or count of section three.
 fn check_sections(file: &[u8], x: Numbers) -> u32
-    requires { ⌜ Inner.Lawful x ⌝ }
-    ensures { λ r. ⌜ r ≡ Reader.sections (x .n) (x .l) (x .s) (x .d) (now (file .entry)) ⌝ }
+    requires { ⌜ LawfulNumbers x ⌝ }
+    ensures { λ r. ⌜ r ≡ Reader.sections x (now (file .entry)) ⌝ }
 {
-    let selectors = x.d * (1 + block_words(x));
+    let selectors = x.d * (1 + lookup::block_size(x));
     let classes = table_words(x);
     if file.len() as u64 != 4 * (8 + selectors + classes) {
         return 5;
@@ -100,7 +89,7 @@ pub fn refusal(file: &[u8]) -> u32
         return begun;
     }
     let x = read_numbers(file);
-    let unlawful = lookup::checks::check_numbers(x.n, x.g, x.l, x.m, x.s, x.d);
+    let unlawful = lookup::checks::check_numbers(x);
     if unlawful != 0 {
         return unlawful;
     }

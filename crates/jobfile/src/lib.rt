@@ -3,12 +3,15 @@ pub mod checks;
 pub mod parts;
 pub mod text;
 
-use crate::checks::Numbers;
 use answers::Answer;
+use lookup::Numbers;
 ghost use mathlib.Core.Path.{_≡_};
 ghost use Prim.Native.Nat.{_*_, _≤_};
 ghost use lib.ListN.{length};
-ghost use Rattle.trgsw.specs.Block.{blockSize};
+ghost use Rattle.lookup.specs.Numbers.{LawfulNumbers, parameters};
+ghost use Rattle.trgsw.specs.Parameters.{blockSize};
+ghost use Rattle.lookup.specs.Calls.{lookup};
+ghost use Rattle.jobfile.specs.File.{fileJob};
 ghost use Rattle.jobfile.specs.Reader as Reader;
 ghost use Rattle.jobfile.specs.Inner as Inner;
 
@@ -48,22 +51,16 @@ fn amplitudes_room() -> [u8; 40]
 
 // The lookup of a job that is taken apart.
 fn evaluate(x: Numbers, blocks: &[u8], amplitudes: &[u8], classes: &[u8]) -> Outcome
-    requires { ⌜ (x .n ≤ 1024) × (x .d ≤ 10) ⌝ }
-    ensures { λ r. ⌜ Reader.Tells r
-        (Inner.answer x (now (blocks .entry)) (now (amplitudes .entry)) (now (classes .entry)))
-        (Inner.sample x (now (blocks .entry)) (now (amplitudes .entry)) (now (classes .entry))) ⌝ }
+    requires { ⌜ LawfulNumbers x ⌝ }
+    ensures { λ r. ⌜ (let j = fileJob x (now (blocks .entry)) (now (amplitudes .entry)) (now (classes .entry)) in
+        Reader.Tells r (lookup j) (Inner.sample j)) ⌝ }
 {
     let mut sample = sample_room();
     let mut work = work_room();
-    let size = 8 * x.n as usize;
+    let size = 8 * x.N as usize;
     let room = size * (x.d as usize + 1);
     let answer = lookup::lookup(
-        x.n,
-        x.g,
-        x.l,
-        x.m,
-        x.s,
-        x.d,
+        x,
         blocks,
         amplitudes,
         classes,
@@ -87,11 +84,11 @@ fn evaluate(x: Numbers, blocks: &[u8], amplitudes: &[u8], classes: &[u8]) -> Out
 // The job in a file that passes the checks is looked up, with its blocks and its amplitudes brought together in the slices that are
 // lent for them. What stands behind the count d begins at byte 28.
 fn look_up_with(blocks: &mut [u8], amplitudes: &mut [u8], file: &[u8], x: Numbers) -> Outcome
-    requires { ⌜ (Reader.fileRefusal (now file) ≡ 0) × Inner.Held x (Reader.readJob (now file))
-        × (length (now blocks) ≡ 4 * (x .d * blockSize (x .n) 1 (x .l))) × (length (now amplitudes) ≡ 4 * x .d) ⌝ }
+    requires { ⌜ (Reader.fileRefusal (now file) ≡ 0) × (x ≡ Reader.readJob (now file) .numbers)
+        × (length (now blocks) ≡ 4 * (x .d * blockSize (parameters x))) × (length (now amplitudes) ≡ 4 * x .d) ⌝ }
     ensures { λ r. ⌜ Reader.Tells r (Reader.jobAnswer (now (file .entry))) (Reader.jobSample (now (file .entry))) ⌝ }
 {
-    let b = checks::block_words(x) as usize;
+    let b = lookup::block_size(x) as usize;
     let d = x.d as usize;
     let table = 32 + 4 * (d * (1 + b));
     parts::gather_blocks(blocks, &file[28..], d, b);
@@ -101,12 +98,12 @@ fn look_up_with(blocks: &mut [u8], amplitudes: &mut [u8], file: &[u8], x: Number
 
 // The same, with rooms for them.
 fn look_up(file: &[u8], x: Numbers) -> Outcome
-    requires { ⌜ (Reader.fileRefusal (now file) ≡ 0) × Inner.Held x (Reader.readJob (now file)) ⌝ }
+    requires { ⌜ (Reader.fileRefusal (now file) ≡ 0) × (x ≡ Reader.readJob (now file) .numbers) ⌝ }
     ensures { λ r. ⌜ Reader.Tells r (Reader.jobAnswer (now (file .entry))) (Reader.jobSample (now (file .entry))) ⌝ }
 {
     let mut blocks = blocks_room();
     let mut amplitudes = amplitudes_room();
-    let blocks_size = 4 * (x.d * checks::block_words(x)) as usize;
+    let blocks_size = 4 * (x.d * lookup::block_size(x)) as usize;
     let amplitudes_size = 4 * x.d as usize;
     look_up_with(
         &mut blocks[0..blocks_size],

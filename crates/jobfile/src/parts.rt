@@ -7,7 +7,7 @@ ghost use Rattle.jobfile.specs.Reader as Reader;
 
 // The amplitudes of d selectors with blocks of b words, out of what stands behind the count d.
 pub fn gather_amplitudes(amplitudes: &mut [u8], rest: &[u8], d: usize, b: usize)
-    requires { ⌜ (length (now amplitudes) ≡ 4 * d) × (4 * (d * (1 + b)) ≤ length (now rest)) × (b ≤ 131072) ⌝ }
+    requires { ⌜ (length (now amplitudes) ≡ 4 * d) × (4 * (d * (1 + b)) ≤ length (now rest)) × (b ≤ 819200) ⌝ }
     ensures { λ _. ⌜ words (now (amplitudes .exit)) ≡ Reader.readAmplitudes b d (words (now (rest .entry))) ⌝ }
 {
     let mut i = 0;
@@ -19,7 +19,7 @@ pub fn gather_amplitudes(amplitudes: &mut [u8], rest: &[u8], d: usize, b: usize)
 
 // The blocks likewise, one after another.
 pub fn gather_blocks(blocks: &mut [u8], rest: &[u8], d: usize, b: usize)
-    requires { ⌜ (length (now blocks) ≡ 4 * (d * b)) × (4 * (d * (1 + b)) ≤ length (now rest)) × (b ≤ 131072) ⌝ }
+    requires { ⌜ (length (now blocks) ≡ 4 * (d * b)) × (4 * (d * (1 + b)) ≤ length (now rest)) × (b ≤ 819200) ⌝ }
     ensures { λ _. ⌜ words (now (blocks .exit)) ≡ Reader.readBlocks b d (words (now (rest .entry))) ⌝ }
 {
     let size = 4 * b;

@@ -1,8 +1,6 @@
--- Demand 3, the accuracy rule, of the calls' own definitions, from the lent bytes to the classes: if a lookup answers 0, and each
--- selector's block holds a bit within its declared amplitude under a key, then the phase of the sample that it leaves is, in every
--- coefficient, within the reported bound of the exact encoding of the entry that the bits name, and decryption with the lookup's N, M and
--- s is accepted and lists that entry's classes. It is one statement over all lawful N, g, L, M, s and d. And what an accepted lookup
--- reports.
+-- Demand 3, the accuracy rule, of the calls' own definitions, from the lent bytes to the classes: a job that is accepted and meets the
+-- premises is answered accurately, and so is its sample (`Premises` and `Accurate`, specs/Rule.antt). It is one statement over all lawful
+-- N, g, L, M, s and d. And what an accepted lookup reports.
 -- Assumes nothing.
 use mathlib.Core.Path.{_≡_, refl, ap, _∙_}
 use mathlib.Core.List.{List}
@@ -16,150 +14,135 @@ use Rattle.torus.specs.Bytes.{AreBytes, words, bytes}
 use Rattle.torus.proofs.Joined.{chunk-inside}
 use Rattle.torus.proofs.Magnitudes.{near-distance}
 use Rattle.torus.proofs.Parts.{length-words, length-bytes, words-bytes}
+use Rattle.ring.specs.Polynomial.{coefficients}
 use Rattle.ring.proofs.Close.{Close}
 use Rattle.answers.specs.Answers.{number, bound, gates}
 use Rattle.answers.proofs.Laws.{after-written}
-use Rattle.trlwe.specs.Sample.{Key, phase, decrypted}
+use Rattle.trlwe.specs.Sample.{phase, decrypted}
 use Rattle.trlwe.specs.Calls.{decryptClasses, decryptClassesClasses}
 use Rattle.trlwe.proofs.Accepted.{decrypt-accepts}
 use Rattle.trlwe.proofs.Phases.{length-trivial}
 use Rattle.trlwe.proofs.Decrypted.{decrypt-bytes}
-use Rattle.trgsw.specs.Block.{Holds}
-use Rattle.trgsw.specs.External.{charge}
 use Rattle.trgsw.proofs.CallNoise.{weight-one}
-use Rattle.lookup.specs.Tree.{entryNumber}
-use Rattle.lookup.specs.Lookup.{selector, entryClasses, entryMessage, entrySample, treeSample, charges}
-use Rattle.lookup.specs.Calls.{lookup, lookupSample}
+use Rattle.lookup.specs.Numbers.{masks, weight, parameters}
+use Rattle.trgsw.specs.Parameters.{sampleSize, charge}
+use Rattle.lookup.specs.Lookup.{charges, entryClasses, entryMessage, entrySample, treeSample}
+use Rattle.lookup.specs.Job.{Job}
+use Rattle.lookup.specs.Calls.{noiseBound, resultSample, lookup, lookupSample, IsAccepted}
+use Rattle.lookup.specs.Rule.{Premises, named, Accurate}
 use Rattle.lookup.proofs.Accepted.{Findable, lookup-accepted, lookup-accepts}
 use Rattle.lookup.proofs.Trees.{tree-none, entry-number-lt}
 use Rattle.lookup.proofs.Noise.{tree-sample-below, length-tree-sample}
 use Rattle.lookup.proofs.PublicEntries.{entry-word, entry-below, entry-bytes, public-near, public-classes}
 
-module _ (N g L M s d : ℕ) (blocks amplitudes classes sample work : List ℕ)
-    (e : number (lookup N g L M s d blocks amplitudes classes sample work) ≡ 0) where
-  ok : Findable N g L M s d blocks amplitudes classes sample work
-  ok = lookup-accepted N g L M s d blocks amplitudes classes sample work e
+module _ (j : Job) (accepted : IsAccepted j) where
+  ok : Findable j
+  ok = lookup-accepted j accepted
 
   -- ---- what an accepted lookup reports
 
   -- "The bound is the sum of the d charges".
-  pub lookup-bound : bound (lookup N g L M s d blocks amplitudes classes sample work) ≡ sum d (λ i. charge N 1 g L N (getD (words amplitudes) i 0))
+  pub lookup-bound : bound (lookup j) ≡ sum (j .numbers .d) (λ i. charge (parameters (j .numbers)) (getD (words (j .amplitudes)) i 0))
   unfolding charges
-  lookup-bound = ap bound (lookup-accepts N g L M s d blocks amplitudes classes sample work ok)
+  lookup-bound = ap bound (lookup-accepts j ok)
 
   -- "the gates are 2^d - 1"
-  pub lookup-gates : gates (lookup N g L M s d blocks amplitudes classes sample work) ≡ 2 ^ d - 1
-  lookup-gates = ap gates (lookup-accepts N g L M s d blocks amplitudes classes sample work ok)
+  pub lookup-gates : gates (lookup j) ≡ 2 ^ j .numbers .d - 1
+  lookup-gates = ap gates (lookup-accepts j ok)
 
   -- ---- the sample that it leaves
 
-  below : (i : ℕ) → i < length (words classes) → getD (words classes) i 0 < M
-  below i l = ok .job .contents .below i (omega (arith, length-words classes, ok .job .lengths .classes-length))
-
-  pub lookup-bytes : lookupSample N g L M s d blocks amplitudes classes sample work
-      ≡ bytes (treeSample N 1 g L (words blocks) (entrySample N 1 M s (words classes)) d 0)
+  pub lookup-bytes : lookupSample j ≡ bytes (resultSample j)
   unfolding lookupSample
-  lookup-bytes = after-written _ _ _ e
+  lookup-bytes = after-written _ _ _ accepted
 
-  pub lookup-words : words (lookupSample N g L M s d blocks amplitudes classes sample work)
-      ≡ treeSample N 1 g L (words blocks) (entrySample N 1 M s (words classes)) d 0
+  pub lookup-words : words (lookupSample j) ≡ resultSample j
   lookup-words =
       ap words lookup-bytes
-      ∙ words-bytes _ (tree-sample-below N 1 g L (words blocks) _ d 0 (entry-below M s (words classes) (ok .job .numbers .class-number) below N 1))
+      ∙ words-bytes _ (tree-sample-below (parameters (j .numbers)) (words (j .blocks)) _ (j .numbers .d) 0
+      (entry-below (j .numbers) (words (j .classes)) (ok .job .numbers) (ok .job .contents .below)))
 
-  pub lookup-length : length (lookupSample N g L M s d blocks amplitudes classes sample work) ≡ 4 * (2 * N)
+  pub lookup-length : length (lookupSample j) ≡ 4 * sampleSize (parameters (j .numbers))
   lookup-length =
+      let x = j .numbers in
       ap length lookup-bytes ∙ length-bytes _
-      ∙ ap (λ n. 4 * n) (length-tree-sample N 1 g L (words blocks) _ d 0 (λ h. length-trivial N 1 _))
+      ∙ ap (λ n. 4 * n) (length-tree-sample (parameters x) (words (j .blocks)) _ (x .d) 0 (λ h. length-trivial (x .N) (masks x) _))
 
-  -- ---- what it holds
+-- ---- what it holds
 
-  module _ (bits : ℕ → ℕ) (key : List ℕ) (k : Key N 1 key) (bit : (i : ℕ) → i < d → bits i ≤ 1)
-      (holds : (i : ℕ) → i < d → Holds N 1 g L (bits i) (getD (words amplitudes) i 0) (words key) (selector N 1 L i (words blocks))) where
-    -- Its phase is within the charges of the encoding of the entry that the bits name.
-    lookup-near : Close (2 ^ 32) N (charges N 1 g L N (words amplitudes) d)
-        (phase N 1 (words key) (words (lookupSample N g L M s d blocks amplitudes classes sample work)))
-        (entryMessage M s (entryNumber bits d) (words classes))
-    lookup-near =
-        rw lookup-words
-        (public-near M s (words classes) (ok .job .numbers .class-number) below N 1 g L N d bits (words key) (words blocks) (words amplitudes)
-        (ok .job .numbers .gadget) (weight-one N key k) bit holds)
+-- A key has at most N ones.
+light : (j : Job) (bits : ℕ → ℕ) (key out : List ℕ) → Premises j bits key out
+    → sum (masks (j .numbers) * j .numbers .N) (coefficients (words key)) ≤ weight (j .numbers)
+unfolding masks weight
+light j bits key out given = weight-one (j .numbers .N) key (given .key-fits)
 
-    -- As a distance of words, that is at most the reported bound.
-    lookup-within : (i : ℕ) → i < N
-        → distance (phase N 1 (words key) (words (lookupSample N g L M s d blocks amplitudes classes sample work)) i)
-        (entryMessage M s (entryNumber bits d) (words classes) i)
-        ≤ bound (lookup N g L M s d blocks amplitudes classes sample work)
-    lookup-within i l =
-        let word : entryMessage M s (entryNumber bits d) (words classes) i < 2 ^ 32 =
-        entry-word M s (words classes) (ok .job .numbers .class-number) below (entryNumber bits d) i in
-        rw (lookup-accepts N g L M s d blocks amplitudes classes sample work ok) (near-distance (le-of-lt word) (lookup-near i l))
+module _ (j : Job) (accepted : IsAccepted j) (bits : ℕ → ℕ) (key out : List ℕ) (given : Premises j bits key out) where
+  fit : Findable j
+  fit = lookup-accepted j accepted
 
-    -- So it holds the classes of that entry.
-    lookup-holds : decrypted N 1 M s (words key) (words (lookupSample N g L M s d blocks amplitudes classes sample work))
-        ≡ entryClasses s (entryNumber bits d) (words classes)
-    lookup-holds =
-        rw lookup-words
-        (public-classes M s (words classes) (ok .job .numbers .class-number) below N 1 g L N d bits (words key) (words blocks) (words amplitudes)
-        (ok .job .numbers .gadget) (weight-one N key k) bit holds (ok .job .numbers .most) (omega (arith, length-words classes, ok .job .lengths .classes-length)) (ok .quiet))
+  -- Its phase is within the noise bound of the encoding of the entry that the bits name.
+  lookup-near : let x = j .numbers in
+      Close (2 ^ 32) (x .N) (noiseBound j) (phase (x .N) (masks x) (words key) (words (lookupSample j))) (entryMessage x (named j bits) (words (j .classes)))
+  lookup-near =
+      rw (lookup-words j accepted)
+      (public-near (j .numbers) (words (j .classes)) (fit .job .numbers) (fit .job .contents .below) bits (words key) (words (j .blocks))
+      (words (j .amplitudes)) (light j bits key out given) (given .bit) (given .holds))
 
--- The accuracy rule.
-pub accuracy : (N g L M s d : ℕ) (bits : ℕ → ℕ) (key blocks amplitudes classes sample work out : List ℕ)
-    → number (lookup N g L M s d blocks amplitudes classes sample work) ≡ 0
-    → Key N 1 key
-    → ((i : ℕ) → i < d → bits i ≤ 1)
-    → ((i : ℕ) → i < d → Holds N 1 g L (bits i) (getD (words amplitudes) i 0) (words key) (selector N 1 L i (words blocks)))
-    → length out ≡ 4 * s
-    → ((i : ℕ) → i < N
-    → distance (phase N 1 (words key) (words (lookupSample N g L M s d blocks amplitudes classes sample work)) i)
-    (entryMessage M s (entryNumber bits d) (words classes) i)
-    ≤ bound (lookup N g L M s d blocks amplitudes classes sample work))
-    × (number (decryptClasses N M s key (lookupSample N g L M s d blocks amplitudes classes sample work) out) ≡ 0)
-    × (decryptClassesClasses N M s key (lookupSample N g L M s d blocks amplitudes classes sample work) out
-    ≡ bytes (entryClasses s (entryNumber bits d) (words classes)))
-accuracy N g L M s d bits key blocks amplitudes classes sample work out e k bit holds size =
-    let ok : Findable N g L M s d blocks amplitudes classes sample work = lookup-accepted N g L M s d blocks amplitudes classes sample work e in
-    let result : List ℕ = lookupSample N g L M s d blocks amplitudes classes sample work in
-    let accepted : number (decryptClasses N M s key result out) ≡ 0 =
-    ap number (decrypt-accepts N M s key result out (record {
-      key-fits = k;
-      class-number = ok .job .numbers .class-number;
-      some = ok .job .numbers .some;
-      most = ok .job .numbers .most;
-      sample-length = lookup-length N g L M s d blocks amplitudes classes sample work e;
-      classes-length = size;
-    })) in (
-      lookup-within N g L M s d blocks amplitudes classes sample work e bits key k bit holds,
-      accepted,
-      decrypt-bytes N M s key result out accepted
-          ∙ ap bytes (lookup-holds N g L M s d blocks amplitudes classes sample work e bits key k bit holds),
-    )
+  -- As a distance of words, that is at most the reported bound.
+  lookup-within : let x = j .numbers in (i : ℕ) → i < x .N
+      → distance (phase (x .N) (masks x) (words key) (words (lookupSample j)) i) (entryMessage x (named j bits) (words (j .classes)) i) ≤ bound (lookup j)
+  lookup-within i l =
+      let x = j .numbers in
+      let word : entryMessage x (named j bits) (words (j .classes)) i < 2 ^ 32 =
+      entry-word x (words (j .classes)) (fit .job .numbers) (fit .job .contents .below) (named j bits) i in
+      rw (lookup-accepts j fit) (near-distance (le-of-lt word) (lookup-near i l))
 
--- What decryption leaves are the very bytes that were lent for the entry.
-pub accuracy-bytes : (N g L M s d : ℕ) (bits : ℕ → ℕ) (key blocks amplitudes classes sample work out : List ℕ) → AreBytes classes
-    → number (lookup N g L M s d blocks amplitudes classes sample work) ≡ 0
-    → Key N 1 key
-    → ((i : ℕ) → i < d → bits i ≤ 1)
-    → ((i : ℕ) → i < d → Holds N 1 g L (bits i) (getD (words amplitudes) i 0) (words key) (selector N 1 L i (words blocks)))
-    → length out ≡ 4 * s
-    → decryptClassesClasses N M s key (lookupSample N g L M s d blocks amplitudes classes sample work) out
-    ≡ chunk (4 * s) (entryNumber bits d) classes
-accuracy-bytes N g L M s d bits key blocks amplitudes classes sample work out cb e k bit holds size =
-    let ok : Findable N g L M s d blocks amplitudes classes sample work = lookup-accepted N g L M s d blocks amplitudes classes sample work e in
-    let inside : entryNumber bits d * (4 * s) + 4 * s ≤ length classes =
-    omega (arith, chunk-inside (entryNumber bits d) (2 ^ d) (4 * s) (entry-number-lt bits d bit), ok .job .lengths .classes-length) in
-    accuracy N g L M s d bits key blocks amplitudes classes sample work out e k bit holds size .2
-    ∙ entry-bytes s (entryNumber bits d) classes cb inside
+  -- So it holds the classes of that entry.
+  lookup-holds : let x = j .numbers in
+      decrypted (x .N) (masks x) (x .M) (x .s) (words key) (words (lookupSample j)) ≡ entryClasses x (named j bits) (words (j .classes))
+  lookup-holds =
+      rw (lookup-words j accepted)
+      (public-classes (j .numbers) (words (j .classes)) (fit .job .numbers) (fit .job .contents .below) bits (words key) (words (j .blocks))
+      (words (j .amplitudes)) (light j bits key out given) (given .bit) (given .holds)
+      (omega (arith, length-words (j .classes), fit .job .lengths .classes-length)) (fit .quiet))
+
+  -- The accuracy rule.
+  pub accuracy : Accurate j bits key out (lookup j) (lookupSample j)
+  unfolding masks
+  accuracy =
+      let x = j .numbers in
+      let ok = fit .job .numbers in
+      let decrypts : number (decryptClasses (x .N) (x .M) (x .s) key (lookupSample j) out) ≡ 0 =
+      ap number (decrypt-accepts (x .N) (x .M) (x .s) key (lookupSample j) out (record {
+        key-fits = given .key-fits;
+        class-number = ok .class-number;
+        some = ok .some;
+        most = ok .most;
+        sample-length = lookup-length j accepted;
+        classes-length = given .out-length;
+      })) in
+      record {
+        within = lookup-within;
+        decrypts = decrypts;
+        lists = decrypt-bytes (x .N) (x .M) (x .s) key (lookupSample j) out decrypts ∙ ap bytes lookup-holds;
+      }
+
+  -- What decryption leaves are the very bytes that were lent for the entry.
+  pub accuracy-bytes : AreBytes (j .classes) → let x = j .numbers in
+      decryptClassesClasses (x .N) (x .M) (x .s) key (lookupSample j) out ≡ chunk (4 * x .s) (named j bits) (j .classes)
+  accuracy-bytes are-bytes =
+      let x = j .numbers in
+      let h : ℕ = named j bits in
+      let inside : h * (4 * x .s) + 4 * x .s ≤ length (j .classes) =
+      omega (arith, chunk-inside h (2 ^ x .d) (4 * x .s) (entry-number-lt bits (x .d) (given .bit)), fit .job .lengths .classes-length) in
+      accuracy .lists ∙ entry-bytes x h (j .classes) are-bytes inside
 
 -- "With d = 0 the result is the entry itself, bound 0, gates 0."
-pub lookup-none : (N g L M s : ℕ) (blocks amplitudes classes sample work : List ℕ)
-    → number (lookup N g L M s 0 blocks amplitudes classes sample work) ≡ 0
-    → (lookupSample N g L M s 0 blocks amplitudes classes sample work ≡ bytes (entrySample N 1 M s (words classes) 0))
-    × (bound (lookup N g L M s 0 blocks amplitudes classes sample work) ≡ 0)
-    × (gates (lookup N g L M s 0 blocks amplitudes classes sample work) ≡ 0)
+pub lookup-none : (j : Job) → IsAccepted j → j .numbers .d ≡ 0
+    → (lookupSample j ≡ bytes (entrySample (j .numbers) (words (j .classes)) 0)) × (bound (lookup j) ≡ 0) × (gates (lookup j) ≡ 0)
 unfolding treeSample sum
-lookup-none N g L M s blocks amplitudes classes sample work e = (
-  lookup-bytes N g L M s 0 blocks amplitudes classes sample work e ∙ ap bytes (tree-none _ (entrySample N 1 M s (words classes)) 0 0 refl),
-  lookup-bound N g L M s 0 blocks amplitudes classes sample work e,
-  lookup-gates N g L M s 0 blocks amplitudes classes sample work e,
+lookup-none j accepted z = (
+  lookup-bytes j accepted ∙ ap bytes (tree-none _ (entrySample (j .numbers) (words (j .classes))) (j .numbers .d) 0 z),
+  lookup-bound j accepted ∙ ap (λ d. sum d (λ i. charge (parameters (j .numbers)) (getD (words (j .amplitudes)) i 0))) z,
+  lookup-gates j accepted ∙ ap (λ d. 2 ^ d - 1) z,
 )

@@ -22,12 +22,18 @@ use Rattle.trlwe.specs.Classes.{encode, message}
 use Rattle.trlwe.specs.Sample.{Key, polynomials, masked, phase, body, encryption, trivial}
 use Rattle.trlwe.specs.Calls.{decryptClasses, decryptClassesClasses}
 use Rattle.trgsw.specs.Block.{encryptedRow, encryptedBlock, Holds}
-use Rattle.trgsw.specs.External.{external, difference, cmuxSample, charge}
+use Rattle.trgsw.specs.External.{external, difference, cmuxSample}
+use Rattle.trgsw.specs.External as External
+use Rattle.trgsw.specs.declared.Parameters.{Parameters}
 use Rattle.trgsw.specs.Calls.{encryptSelector, encryptSelectorBlock}
 use Rattle.trgsw.proofs.CallNoise.{selector-holds}
 use Rattle.trgsw.proofs.Instance.{at-0, sampleRoom, keyJ, blockJ, key-J, holds-J, masksE, blockRoom, blockE, holds-E}
 use Rattle.lookup.specs.Tree.{tree, entryNumber}
+use Rattle.lookup.specs.declared.Numbers.{Numbers}
+use Rattle.lookup.specs.Numbers.{masks, weight, parameters}
+use Rattle.trgsw.specs.Parameters.{charge}
 use Rattle.lookup.specs.Lookup.{selector, treeSample, charges}
+use Rattle.lookup.specs.Job.{Job}
 use Rattle.lookup.specs.Calls.{lookup, lookupSample}
 use Rattle.lookup.proofs.Accuracy.{accuracy}
 
@@ -47,44 +53,50 @@ classesJ = bytes (3 ∷ 8 ∷ [])
 abbrev pub workJ : List ℕ
 workJ = bytes (0 ∷ 0 ∷ 0 ∷ 0 ∷ [])
 
+abbrev pub numbersJ : Numbers
+numbersJ = record { N = 1; g = 16; L = 2; M = 16; s = 1; d = 1 }
+
+abbrev pub jobJ : Job
+jobJ = record { numbers = numbersJ; blocks = blockJ; amplitudes = amplitudesJ; classes = classesJ; sample = sampleRoom; work = workJ }
+
 -- The lookup is accepted, with the document's bound and gates.
-pub job-accepted : number (lookup 1 16 2 16 1 1 blockJ amplitudesJ classesJ sampleRoom workJ) ≡ 0
-unfolding lookup _orElse_ charges sum charge precision words bytes ones allBelow
+pub job-accepted : number (lookup jobJ) ≡ 0
+unfolding masks weight lookup _orElse_ charges sum External.charge precision words bytes ones allBelow
 job-accepted = refl
 
-pub job-bound : bound (lookup 1 16 2 16 1 1 blockJ amplitudesJ classesJ sampleRoom workJ) ≡ 917504
-unfolding lookup _orElse_ charges sum charge precision words bytes ones allBelow
+pub job-bound : bound (lookup jobJ) ≡ 917504
+unfolding masks weight lookup _orElse_ charges sum External.charge precision words bytes ones allBelow
 job-bound = refl
 
-pub job-gates : gates (lookup 1 16 2 16 1 1 blockJ amplitudesJ classesJ sampleRoom workJ) ≡ 1
-unfolding lookup _orElse_ charges sum charge precision words bytes ones allBelow
+pub job-gates : gates (lookup jobJ) ≡ 1
+unfolding masks weight lookup _orElse_ charges sum External.charge precision words bytes ones allBelow
 job-gates = refl
 
 -- "mask 0 0", "body 0 2147483648"
-pub job-result : words (lookupSample 1 16 2 16 1 1 blockJ amplitudesJ classesJ sampleRoom workJ) ≡ 0 ∷ 2147483648 ∷ []
-unfolding lookupSample lookup _orElse_ after charges sum charge precision words bytes ones allBelow
+pub job-result : words (lookupSample jobJ) ≡ 0 ∷ 2147483648 ∷ []
+unfolding lookupSample masks weight lookup _orElse_ after charges sum External.charge precision words bytes ones allBelow
     treeSample tree trivial message encode cmuxSample polynomials joined tabulate external difference product digit rounded
 job-result = refl
 
 -- The block holds 1 within the amplitude, as the rule's premise has it.
-job-holds : (i : ℕ) → i < 1 → Holds 1 1 16 2 1 (getD (words amplitudesJ) i 0) (words keyJ) (selector 1 1 2 i (words blockJ))
-unfolding words bytes
-job-holds = at-0 (λ i. Holds 1 1 16 2 1 (getD (words amplitudesJ) i 0) (words keyJ) (selector 1 1 2 i (words blockJ))) holds-J
+job-holds : (i : ℕ) → i < 1 → Holds 1 1 16 2 1 (getD (words amplitudesJ) i 0) (words keyJ) (selector (parameters numbersJ) i (words blockJ))
+unfolding masks words bytes
+job-holds = at-0 (λ i. Holds 1 1 16 2 1 (getD (words amplitudesJ) i 0) (words keyJ) (selector (parameters numbersJ) i (words blockJ))) holds-J
 
 -- The rule applies: the phase is within the bound of what entry 1 says, and decryption gives its class.
 pub job-rule :
-    (distance (phase 1 1 (words keyJ) (words (lookupSample 1 16 2 16 1 1 blockJ amplitudesJ classesJ sampleRoom workJ)) 0) (8 * 2 ^ 28) ≤ 917504)
-    × (number (decryptClasses 1 16 1 keyJ (lookupSample 1 16 2 16 1 1 blockJ amplitudesJ classesJ sampleRoom workJ) classRoom) ≡ 0)
-    × (decryptClassesClasses 1 16 1 keyJ (lookupSample 1 16 2 16 1 1 blockJ amplitudesJ classesJ sampleRoom workJ) classRoom ≡ bytes (8 ∷ []))
-unfolding words bytes entryNumber sum message encode
+    (distance (phase 1 1 (words keyJ) (words (lookupSample jobJ)) 0) (8 * 2 ^ 28) ≤ 917504)
+    × (number (decryptClasses 1 16 1 keyJ (lookupSample jobJ) classRoom) ≡ 0)
+    × (decryptClassesClasses 1 16 1 keyJ (lookupSample jobJ) classRoom ≡ bytes (8 ∷ []))
+unfolding masks words bytes entryNumber sum message encode
 job-rule =
-    let rule =
-    accuracy 1 16 2 16 1 1 (λ i. 1) keyJ blockJ amplitudesJ classesJ sampleRoom workJ classRoom job-accepted key-J (λ i l. le-refl 1) job-holds refl in (
+    let rule = accuracy jobJ job-accepted (λ i. 1) keyJ classRoom
+    (record { key-fits = key-J; bit = λ i l. le-refl 1; holds = job-holds; out-length = refl }) in (
       subst (λ b.
-          distance (phase 1 1 (words keyJ) (words (lookupSample 1 16 2 16 1 1 blockJ amplitudesJ classesJ sampleRoom workJ)) 0) (8 * 2 ^ 28) ≤ b)
-          job-bound (rule .0 0 (lit< tt)),
-      rule .1,
-      rule .2,
+          distance (phase 1 1 (words keyJ) (words (lookupSample jobJ)) 0) (8 * 2 ^ 28) ≤ b)
+          job-bound (rule .within 0 (lit< tt)),
+      rule .decrypts,
+      rule .lists,
     )
 
 -- ---- two selectors with noise
@@ -126,36 +138,42 @@ classesFE = bytes (5 ∷ 9 ∷ 12 ∷ 3 ∷ [])
 abbrev pub workFE : List ℕ
 workFE = bytes (0 ∷ 0 ∷ 0 ∷ 0 ∷ 0 ∷ 0 ∷ [])
 
+abbrev pub numbersFE : Numbers
+numbersFE = record { N = 1; g = 16; L = 2; M = 16; s = 1; d = 2 }
+
+abbrev pub jobFE : Job
+jobFE = record { numbers = numbersFE; blocks = blocksFE; amplitudes = amplitudesFE; classes = classesFE; sample = sampleRoom; work = workFE }
+
 -- The lookup is accepted, with the sum of two charges and three gates.
-pub accepted-FE : number (lookup 1 16 2 16 1 2 blocksFE amplitudesFE classesFE sampleRoom workFE) ≡ 0
-unfolding encryptSelectorBlock encryptSelector lookup _orElse_ after charges charge precision words bytes ones allBelow
+pub accepted-FE : number (lookup jobFE) ≡ 0
+unfolding encryptSelectorBlock encryptSelector masks weight lookup _orElse_ after charges External.charge precision words bytes ones allBelow
     encryptedBlock encryptedRow encryption body joined tabulate masked sum product
 accepted-FE = refl
 
-pub bound-FE : bound (lookup 1 16 2 16 1 2 blocksFE amplitudesFE classesFE sampleRoom workFE) ≡ 786432
-unfolding encryptSelectorBlock encryptSelector lookup _orElse_ after charges charge precision words bytes ones allBelow
+pub bound-FE : bound (lookup jobFE) ≡ 786432
+unfolding encryptSelectorBlock encryptSelector masks weight lookup _orElse_ after charges External.charge precision words bytes ones allBelow
     encryptedBlock encryptedRow encryption body joined tabulate masked sum product
 bound-FE = refl
 
-pub gates-FE : gates (lookup 1 16 2 16 1 2 blocksFE amplitudesFE classesFE sampleRoom workFE) ≡ 3
-unfolding encryptSelectorBlock encryptSelector lookup _orElse_ after charges charge precision words bytes ones allBelow
+pub gates-FE : gates (lookup jobFE) ≡ 3
+unfolding encryptSelectorBlock encryptSelector masks weight lookup _orElse_ after charges External.charge precision words bytes ones allBelow
     encryptedBlock encryptedRow encryption body joined tabulate masked sum product
 gates-FE = refl
 
 -- Each block is the one that was made,
-selector-0 : selector 1 1 2 0 (words blocksFE) ≡ words blockF
-unfolding encryptSelectorBlock encryptSelector _orElse_ after words bytes ones allBelow
+selector-0 : selector (parameters numbersFE) 0 (words blocksFE) ≡ words blockF
+unfolding masks encryptSelectorBlock encryptSelector _orElse_ after words bytes ones allBelow
     encryptedBlock encryptedRow encryption body joined tabulate masked sum product
 selector-0 = refl
 
-selector-1 : selector 1 1 2 1 (words blocksFE) ≡ words blockE
-unfolding encryptSelectorBlock encryptSelector _orElse_ after words bytes ones allBelow
+selector-1 : selector (parameters numbersFE) 1 (words blocksFE) ≡ words blockE
+unfolding masks encryptSelectorBlock encryptSelector _orElse_ after words bytes ones allBelow
     encryptedBlock encryptedRow encryption body joined tabulate masked sum product
 selector-1 = refl
 
 -- so it holds its bit within its amplitude.
-blocks-FE : (i : ℕ) → i < 2 → Holds 1 1 16 2 (bitsFE i) (getD (words amplitudesFE) i 0) (words keyJ) (selector 1 1 2 i (words blocksFE))
-unfolding words bytes
+blocks-FE : (i : ℕ) → i < 2 → Holds 1 1 16 2 (bitsFE i) (getD (words amplitudesFE) i 0) (words keyJ) (selector (parameters numbersFE) i (words blocksFE))
+unfolding masks words bytes
 blocks-FE zero l = subst (λ block. Holds 1 1 16 2 0 3 (words keyJ) block) (sym selector-0) holds-F
 blocks-FE (suc zero) l = subst (λ block. Holds 1 1 16 2 1 3 (words keyJ) block) (sym selector-1) holds-E
 blocks-FE (suc (suc i)) l = absurd (omega arith)
@@ -167,30 +185,30 @@ bits-FE (suc (suc i)) l = absurd (omega arith)
 
 -- The rule applies: the phase is within the bound of what entry 2 says, and decryption gives its class.
 pub rule-FE :
-    (distance (phase 1 1 (words keyJ) (words (lookupSample 1 16 2 16 1 2 blocksFE amplitudesFE classesFE sampleRoom workFE)) 0) (12 * 2 ^ 28) ≤ 786432)
-    × (number (decryptClasses 1 16 1 keyJ (lookupSample 1 16 2 16 1 2 blocksFE amplitudesFE classesFE sampleRoom workFE) classRoom) ≡ 0)
-    × (decryptClassesClasses 1 16 1 keyJ (lookupSample 1 16 2 16 1 2 blocksFE amplitudesFE classesFE sampleRoom workFE) classRoom ≡ bytes (12 ∷ []))
-unfolding words bytes entryNumber sum message encode
+    (distance (phase 1 1 (words keyJ) (words (lookupSample jobFE)) 0) (12 * 2 ^ 28) ≤ 786432)
+    × (number (decryptClasses 1 16 1 keyJ (lookupSample jobFE) classRoom) ≡ 0)
+    × (decryptClassesClasses 1 16 1 keyJ (lookupSample jobFE) classRoom ≡ bytes (12 ∷ []))
+unfolding masks words bytes entryNumber sum message encode
 rule-FE =
-    let rule =
-    accuracy 1 16 2 16 1 2 bitsFE keyJ blocksFE amplitudesFE classesFE sampleRoom workFE classRoom accepted-FE key-J bits-FE blocks-FE refl in (
+    let rule = accuracy jobFE accepted-FE bitsFE keyJ classRoom
+    (record { key-fits = key-J; bit = bits-FE; holds = blocks-FE; out-length = refl }) in (
       subst (λ b.
-          distance (phase 1 1 (words keyJ) (words (lookupSample 1 16 2 16 1 2 blocksFE amplitudesFE classesFE sampleRoom workFE)) 0) (12 * 2 ^ 28) ≤ b)
-          bound-FE (rule .0 0 (lit< tt)),
-      rule .1,
-      rule .2,
+          distance (phase 1 1 (words keyJ) (words (lookupSample jobFE)) 0) (12 * 2 ^ 28) ≤ b)
+          bound-FE (rule .within 0 (lit< tt)),
+      rule .decrypts,
+      rule .lists,
     )
 
 -- Its mask is not 0, and neither is its noise.
-pub result-FE : words (lookupSample 1 16 2 16 1 2 blocksFE amplitudesFE classesFE sampleRoom workFE) ≡ 2654608328 ∷ 1580875556 ∷ []
-unfolding encryptSelectorBlock encryptSelector lookupSample lookup _orElse_ after charges charge precision words bytes ones allBelow
+pub result-FE : words (lookupSample jobFE) ≡ 2654608328 ∷ 1580875556 ∷ []
+unfolding encryptSelectorBlock encryptSelector lookupSample masks weight lookup _orElse_ after charges External.charge precision words bytes ones allBelow
     encryptedBlock encryptedRow encryption body joined tabulate masked sum product
     treeSample tree trivial message encode cmuxSample polynomials external difference digit rounded
 result-FE = refl
 
 pub noise-FE :
-    distance (phase 1 1 (words keyJ) (words (lookupSample 1 16 2 16 1 2 blocksFE amplitudesFE classesFE sampleRoom workFE)) 0) (12 * 2 ^ 28) ≡ 9052
-unfolding encryptSelectorBlock encryptSelector lookupSample lookup _orElse_ after charges charge precision words bytes ones allBelow
+    distance (phase 1 1 (words keyJ) (words (lookupSample jobFE)) 0) (12 * 2 ^ 28) ≡ 9052
+unfolding encryptSelectorBlock encryptSelector lookupSample masks weight lookup _orElse_ after charges External.charge precision words bytes ones allBelow
     encryptedBlock encryptedRow encryption body joined tabulate masked sum product
     treeSample tree trivial message encode cmuxSample polynomials external difference digit rounded phase magnitude
 noise-FE = refl
@@ -289,44 +307,50 @@ workP = bytes (0 ∷ 0 ∷ 0 ∷ 0 ∷ 0 ∷ 0 ∷ 0 ∷ 0 ∷ 0 ∷ 0 ∷ 0 ∷
 abbrev pub classRoomP : List ℕ
 classRoomP = bytes (0 ∷ 0 ∷ [])
 
+abbrev pub numbersP : Numbers
+numbersP = record { N = 2; g = 8; L = 2; M = 16; s = 2; d = 2 }
+
+abbrev pub jobP : Job
+jobP = record { numbers = numbersP; blocks = blocksP; amplitudes = amplitudesP; classes = classesP; sample = sampleRoomP; work = workP }
+
 -- The lookup is accepted, with the sum of two charges and three gates. A charge is 1024 times the amplitude, and 3 times 2^15.
-pub accepted-P : number (lookup 2 8 2 16 2 2 blocksP amplitudesP classesP sampleRoomP workP) ≡ 0
-unfolding encryptSelectorBlock encryptSelector lookup _orElse_ after charges charge precision words bytes ones allBelow
+pub accepted-P : number (lookup jobP) ≡ 0
+unfolding encryptSelectorBlock encryptSelector masks weight lookup _orElse_ after charges External.charge precision words bytes ones allBelow
     encryptedBlock encryptedRow encryption body joined tabulate masked sum product
 accepted-P = refl
 
-pub bound-P : bound (lookup 2 8 2 16 2 2 blocksP amplitudesP classesP sampleRoomP workP) ≡ 205824
-unfolding encryptSelectorBlock encryptSelector lookup _orElse_ after charges charge precision words bytes ones allBelow
+pub bound-P : bound (lookup jobP) ≡ 205824
+unfolding encryptSelectorBlock encryptSelector masks weight lookup _orElse_ after charges External.charge precision words bytes ones allBelow
     encryptedBlock encryptedRow encryption body joined tabulate masked sum product
 bound-P = refl
 
-pub gates-P : gates (lookup 2 8 2 16 2 2 blocksP amplitudesP classesP sampleRoomP workP) ≡ 3
-unfolding encryptSelectorBlock encryptSelector lookup _orElse_ after charges charge precision words bytes ones allBelow
+pub gates-P : gates (lookup jobP) ≡ 3
+unfolding encryptSelectorBlock encryptSelector masks weight lookup _orElse_ after charges External.charge precision words bytes ones allBelow
     encryptedBlock encryptedRow encryption body joined tabulate masked sum product
 gates-P = refl
 
 -- Each block is the one that was made,
-selector-Q : selector 2 1 2 0 (words blocksP) ≡ words blockQ
-unfolding encryptSelectorBlock encryptSelector _orElse_ after words bytes ones allBelow
+selector-Q : selector (parameters numbersP) 0 (words blocksP) ≡ words blockQ
+unfolding masks encryptSelectorBlock encryptSelector _orElse_ after words bytes ones allBelow
     encryptedBlock encryptedRow encryption body joined tabulate masked sum product
 selector-Q = refl
 
-selector-R : selector 2 1 2 1 (words blocksP) ≡ words blockR
-unfolding encryptSelectorBlock encryptSelector _orElse_ after words bytes ones allBelow
+selector-R : selector (parameters numbersP) 1 (words blocksP) ≡ words blockR
+unfolding masks encryptSelectorBlock encryptSelector _orElse_ after words bytes ones allBelow
     encryptedBlock encryptedRow encryption body joined tabulate masked sum product
 selector-R = refl
 
 -- so it holds its bit within its amplitude.
-blocks-P : (i : ℕ) → i < 2 → Holds 2 1 8 2 (bitsFE i) (getD (words amplitudesP) i 0) (words keyP) (selector 2 1 2 i (words blocksP))
-unfolding words bytes
+blocks-P : (i : ℕ) → i < 2 → Holds 2 1 8 2 (bitsFE i) (getD (words amplitudesP) i 0) (words keyP) (selector (parameters numbersP) i (words blocksP))
+unfolding masks words bytes
 blocks-P =
-    at-01 (λ i. Holds 2 1 8 2 (bitsFE i) (getD (words amplitudesP) i 0) (words keyP) (selector 2 1 2 i (words blocksP)))
+    at-01 (λ i. Holds 2 1 8 2 (bitsFE i) (getD (words amplitudesP) i 0) (words keyP) (selector (parameters numbersP) i (words blocksP)))
     (subst (λ block. Holds 2 1 8 2 0 5 (words keyP) block) (sym selector-Q) holds-Q)
     (subst (λ block. Holds 2 1 8 2 1 4 (words keyP) block) (sym selector-R) holds-R)
 
 -- The sample that it leaves.
 abbrev pub resultP : List ℕ
-resultP = lookupSample 2 8 2 16 2 2 blocksP amplitudesP classesP sampleRoomP workP
+resultP = lookupSample jobP
 
 -- The rule applies: both coefficients of the phase are within the bound of what entry 2 says, and decryption gives its two classes.
 pub rule-P :
@@ -334,18 +358,19 @@ pub rule-P :
     × (distance (phase 2 1 (words keyP) (words resultP) 1) (15 * 2 ^ 28) ≤ 205824)
     × (number (decryptClasses 2 16 2 keyP resultP classRoomP) ≡ 0)
     × (decryptClassesClasses 2 16 2 keyP resultP classRoomP ≡ bytes (8 ∷ 15 ∷ []))
-unfolding words bytes entryNumber sum message encode
+unfolding masks words bytes entryNumber sum message encode
 rule-P =
-    let rule = accuracy 2 8 2 16 2 2 bitsFE keyP blocksP amplitudesP classesP sampleRoomP workP classRoomP accepted-P key-P bits-FE blocks-P refl in (
-      subst (λ b. distance (phase 2 1 (words keyP) (words resultP) 0) (8 * 2 ^ 28) ≤ b) bound-P (rule .0 0 (lit< tt)),
-      subst (λ b. distance (phase 2 1 (words keyP) (words resultP) 1) (15 * 2 ^ 28) ≤ b) bound-P (rule .0 1 (lit< tt)),
-      rule .1,
-      rule .2,
+    let rule = accuracy jobP accepted-P bitsFE keyP classRoomP
+    (record { key-fits = key-P; bit = bits-FE; holds = blocks-P; out-length = refl }) in (
+      subst (λ b. distance (phase 2 1 (words keyP) (words resultP) 0) (8 * 2 ^ 28) ≤ b) bound-P (rule .within 0 (lit< tt)),
+      subst (λ b. distance (phase 2 1 (words keyP) (words resultP) 1) (15 * 2 ^ 28) ≤ b) bound-P (rule .within 1 (lit< tt)),
+      rule .decrypts,
+      rule .lists,
     )
 
 -- Its mask is not 0, and neither is its noise. In coefficient 0 it is above 9216, what the amplitudes are charged: there is rounding in it.
 pub result-P : words resultP ≡ 2773553129 ∷ 3796587218 ∷ 1124383607 ∷ 2006737680 ∷ []
-unfolding encryptSelectorBlock encryptSelector lookupSample lookup _orElse_ after charges charge precision words bytes ones allBelow
+unfolding encryptSelectorBlock encryptSelector lookupSample masks weight lookup _orElse_ after charges External.charge precision words bytes ones allBelow
     encryptedBlock encryptedRow encryption body joined tabulate masked sum product
     treeSample tree trivial message encode cmuxSample polynomials external difference digit rounded
 result-P = refl
@@ -353,41 +378,49 @@ result-P = refl
 pub noise-P :
     (distance (phase 2 1 (words keyP) (words resultP) 0) (8 * 2 ^ 28) ≡ 65952)
     × (distance (phase 2 1 (words keyP) (words resultP) 1) (15 * 2 ^ 28) ≡ 85)
-unfolding encryptSelectorBlock encryptSelector lookupSample lookup _orElse_ after charges charge precision words bytes ones allBelow
+unfolding encryptSelectorBlock encryptSelector lookupSample masks weight lookup _orElse_ after charges External.charge precision words bytes ones allBelow
     encryptedBlock encryptedRow encryption body joined tabulate masked sum product
     treeSample tree trivial message encode cmuxSample polynomials external difference digit rounded phase magnitude
 noise-P = (refl, refl)
 
 -- ---- at the limit
 
+-- Job J with amplitude A.
+abbrev pub limitJ : (A : ℕ) → Job
+limitJ A = record { numbers = numbersJ; blocks = blockJ; amplitudes = bytes (A ∷ []); classes = classesJ; sample = sampleRoom; work = workJ }
+
+-- The parameter set of the document's last case: N = 1,024, g = 8, L = 2.
+abbrev pub large : Parameters
+large = record { N = 1024; k = 1; g = 8; L = 2; W = 1024 }
+
 -- "Job J with amplitude 1023 has bound 134086656, accepted".
-pub accepted-1023 : number (lookup 1 16 2 16 1 1 blockJ (bytes (1023 ∷ [])) classesJ sampleRoom workJ) ≡ 0
-unfolding lookup _orElse_ charges sum charge precision words bytes ones allBelow
+pub accepted-1023 : number (lookup (limitJ 1023)) ≡ 0
+unfolding masks weight lookup _orElse_ charges sum External.charge precision words bytes ones allBelow
 accepted-1023 = refl
 
-pub bound-1023 : bound (lookup 1 16 2 16 1 1 blockJ (bytes (1023 ∷ [])) classesJ sampleRoom workJ) ≡ 134086656
-unfolding lookup _orElse_ charges sum charge precision words bytes ones allBelow
+pub bound-1023 : bound (lookup (limitJ 1023)) ≡ 134086656
+unfolding masks weight lookup _orElse_ charges sum External.charge precision words bytes ones allBelow
 bound-1023 = refl
 
 -- "with 1024, 134217728, answer 9"
-pub refused-1024 : number (lookup 1 16 2 16 1 1 blockJ (bytes (1024 ∷ [])) classesJ sampleRoom workJ) ≡ 9
-unfolding lookup _orElse_ charges sum charge precision words bytes ones allBelow
+pub refused-1024 : number (lookup (limitJ 1024)) ≡ 9
+unfolding masks weight lookup _orElse_ charges sum External.charge precision words bytes ones allBelow
 refused-1024 = refl
 
-pub bound-1024 : bound (lookup 1 16 2 16 1 1 blockJ (bytes (1024 ∷ [])) classesJ sampleRoom workJ) ≡ 134217728
-unfolding lookup _orElse_ charges sum charge precision words bytes ones allBelow
+pub bound-1024 : bound (lookup (limitJ 1024)) ≡ 134217728
+unfolding masks weight lookup _orElse_ charges sum External.charge precision words bytes ones allBelow
 bound-1024 = refl
 
 -- "With N = 1,024, g = 8, L = 2, amplitude 1 and M = 16 a charge is 34111488".
-pub charge-1024 : charge 1024 1 8 2 1024 1 ≡ 34111488
-unfolding charge precision
+pub charge-1024 : charge large 1 ≡ 34111488
+unfolding External.charge precision
 charge-1024 = refl
 
 -- "three selectors are accepted, four get 9": the charges of three are below the limit, and those of four are not.
-pub three-quiet : charges 1024 1 8 2 1024 (1 ∷ 1 ∷ 1 ∷ []) 3 < 2 ^ 31 / 16
-unfolding charges sum charge precision
+pub three-quiet : charges large (1 ∷ 1 ∷ 1 ∷ []) 3 < 2 ^ 31 / 16
+unfolding charges sum External.charge precision
 three-quiet = lit< tt
 
-pub four-noisy : 2 ^ 31 / 16 ≤ charges 1024 1 8 2 1024 (1 ∷ 1 ∷ 1 ∷ 1 ∷ []) 4
-unfolding charges sum charge precision
+pub four-noisy : 2 ^ 31 / 16 ≤ charges large (1 ∷ 1 ∷ 1 ∷ 1 ∷ []) 4
+unfolding charges sum External.charge precision
 four-noisy = lit≤ tt

@@ -13,115 +13,120 @@ use Rattle.gadget.specs.Digits.{isLawful}
 use Rattle.ring.specs.Polynomial.{isDegree}
 use Rattle.answers.specs.Checks as Check
 use Rattle.answers.specs.Answers.{_orElse_, noise}
-use Rattle.answers.proofs.Laws.{first-none, first-met, first-orElse, five-orElse, check-le, first-le, degree-held, degree-met, gadget-held, gadget-met, class-number-held, class-number-met, count-held, count-met, depth-held, depth-met, exact-held, exact-met, amplitudes-held, amplitudes-met, classes-held, classes-met}
-use Rattle.lookup.specs.Numbers.{LawfulNumbers, numbers}
-use Rattle.lookup.specs.Lookup.{charges}
+use Rattle.answers.proofs.Laws.{first-none, first-met, first-orElse, five-orElse, check-other, first-other, degree-held, degree-met, gadget-held, gadget-met, class-number-held, class-number-met, count-held, count-met, depth-held, depth-met, exact-held, exact-met, amplitudes-held, amplitudes-met, classes-held, classes-met}
+use Rattle.lookup.specs.declared.Numbers.{Numbers}
+use Rattle.lookup.specs.Numbers.{LawfulNumbers, parameters, numbers}
+use Rattle.trgsw.specs.Parameters.{sampleSize, blockSize}
+use Rattle.lookup.specs.Job.{Job}
+use Rattle.lookup.specs.Calls.{noiseBound, lookup}
 use Rattle.lookup.specs.Inner.{lengths, contents}
-use Rattle.lookup.specs.Calls.{lookup}
 
 -- ---- the numbers
 
-pub numbers-held : (N g L M s d : ℕ) → numbers N g L M s d ≡ 0 → LawfulNumbers N g L M s d
-numbers-held N g L M s d e =
-    let degree = first-none (Check.degree N) _ e in
-    let gadget = first-none (Check.gadget g L) _ (degree .1) in
-    let class-number = first-none (Check.classNumber M) _ (gadget .1) in
-    let sizes = first-none (Check.count N s) (Check.depth d) (class-number .1) in
-    record {
-      degree = degree-held N (degree .0);
-      gadget = gadget-held g L (gadget .0);
-      class-number = class-number-held M (class-number .0);
-      some = count-held N s (sizes .0) .0;
-      most = count-held N s (sizes .0) .1;
-      depth = depth-held d (sizes .1);
-    }
+module _ (x : Numbers) where
+  pub numbers-held : numbers x ≡ 0 → LawfulNumbers x
+  numbers-held e =
+      let degree = first-none (Check.degree (x .N)) _ e in
+      let gadget = first-none (Check.gadget (x .g) (x .L)) _ (degree .1) in
+      let class-number = first-none (Check.classNumber (x .M)) _ (gadget .1) in
+      let sizes = first-none (Check.count (x .N) (x .s)) (Check.depth (x .d)) (class-number .1) in
+      record {
+        degree = degree-held (x .N) (degree .0);
+        gadget = gadget-held (x .g) (x .L) (gadget .0);
+        class-number = class-number-held (x .M) (class-number .0);
+        some = count-held (x .N) (x .s) (sizes .0) .0;
+        most = count-held (x .N) (x .s) (sizes .0) .1;
+        depth = depth-held (x .d) (sizes .1);
+      }
 
-pub numbers-met : (N g L M s d : ℕ) → LawfulNumbers N g L M s d → numbers N g L M s d ≡ 0
-numbers-met N g L M s d ok =
-    first-met _ _ (degree-met N (ok .degree)) (first-met _ _ (gadget-met g L (ok .gadget))
-    (first-met _ _ (class-number-met M (ok .class-number)) (first-met _ _ (count-met N s (ok .some) (ok .most)) (depth-met d (ok .depth)))))
+  pub numbers-met : LawfulNumbers x → numbers x ≡ 0
+  numbers-met ok =
+      first-met _ _ (degree-met (x .N) (ok .degree)) (first-met _ _ (gadget-met (x .g) (x .L) (ok .gadget))
+      (first-met _ _ (class-number-met (x .M) (ok .class-number))
+      (first-met _ _ (count-met (x .N) (x .s) (ok .some) (ok .most)) (depth-met (x .d) (ok .depth)))))
 
-pub numbers-le : (N g L M s d : ℕ) → numbers N g L M s d ≤ 8
-numbers-le N g L M s d =
-    first-le (Check.degree N) _ 8 (check-le (isDegree N) 1 8 (omega arith))
-    (first-le (Check.gadget g L) _ 8 (check-le (isLawful g L) 2 8 (omega arith))
-    (first-le (Check.classNumber M) _ 8 (check-le (Check.isClassNumber M) 3 8 (omega arith))
-    (first-le (Check.count N s) (Check.depth d) 8 (check-le (leb 1 s && leb s N) 4 8 (omega arith)) (check-le (leb d 10) 4 8 (omega arith)))))
+  -- None of these checks gives 9.
+  pub numbers-other : numbers x ≡ 9 → ⊥
+  numbers-other =
+      first-other (Check.degree (x .N)) _ 9 (check-other (isDegree (x .N)) 1 9 (omega arith) (λ e. omega arith))
+      (first-other (Check.gadget (x .g) (x .L)) _ 9 (check-other (isLawful (x .g) (x .L)) 2 9 (omega arith) (λ e. omega arith))
+      (first-other (Check.classNumber (x .M)) _ 9 (check-other (Check.isClassNumber (x .M)) 3 9 (omega arith) (λ e. omega arith))
+      (first-other (Check.count (x .N) (x .s)) (Check.depth (x .d)) 9
+      (check-other (leb 1 (x .s) && leb (x .s) (x .N)) 4 9 (omega arith) (λ e. omega arith))
+      (check-other (leb (x .d) 10) 4 9 (omega arith) (λ e. omega arith)))))
 
 -- ---- the lengths of the slices
 
-pub record Lengths (N L s d : ℕ) (blocks amplitudes classes sample work : ℕ) : Type 0 where
-  pub blocks-length : blocks ≡ 4 * (d * (4 * L * N))
-  pub amplitudes-length : amplitudes ≡ 4 * d
-  pub classes-length : classes ≡ 4 * (s * 2 ^ d)
-  pub sample-length : sample ≡ 4 * (2 * N)
-  pub work-length : work ≡ 4 * (2 * N * (d + 1))
+pub record Lengths (j : Job) : Type 0 where
+  pub blocks-length : length (j .blocks) ≡ 4 * (j .numbers .d * blockSize (parameters (j .numbers)))
+  pub amplitudes-length : length (j .amplitudes) ≡ 4 * j .numbers .d
+  pub classes-length : length (j .classes) ≡ 4 * (j .numbers .s * 2 ^ j .numbers .d)
+  pub sample-length : length (j .sample) ≡ 4 * sampleSize (parameters (j .numbers))
+  pub work-length : length (j .work) ≡ 4 * (sampleSize (parameters (j .numbers)) * (j .numbers .d + 1))
 
-pub lengths-held : (N L s d blocks amplitudes classes sample work : ℕ) → lengths N L s d blocks amplitudes classes sample work ≡ 0
-    → Lengths N L s d blocks amplitudes classes sample work
-lengths-held N L s d blocks amplitudes classes sample work e =
-    let p = first-none (Check.exact blocks (d * (4 * L * N))) _ e in
-    let q = first-none (Check.exact amplitudes d) _ (p .1) in
-    let r = first-none (Check.exact classes (s * 2 ^ d)) _ (q .1) in
-    let t = first-none (Check.exact sample (2 * N)) (Check.exact work (2 * N * (d + 1))) (r .1) in
-    record {
-      blocks-length = exact-held _ _ (p .0);
-      amplitudes-length = exact-held _ _ (q .0);
-      classes-length = exact-held _ _ (r .0);
-      sample-length = exact-held _ _ (t .0);
-      work-length = exact-held _ _ (t .1);
-    }
+-- The words in them: amplitudes up to 2^31, and classes below M.
+pub record Contents (j : Job) : Type 0 where
+  pub small : (i : ℕ) → i < j .numbers .d → getD (words (j .amplitudes)) i 0 ≤ 2 ^ 31
+  pub below : (i : ℕ) → i < length (words (j .classes)) → getD (words (j .classes)) i 0 < j .numbers .M
 
-pub lengths-met : (N L s d blocks amplitudes classes sample work : ℕ) → Lengths N L s d blocks amplitudes classes sample work
-    → lengths N L s d blocks amplitudes classes sample work ≡ 0
-lengths-met N L s d blocks amplitudes classes sample work ok =
-    first-met _ _ (exact-met _ _ (ok .blocks-length)) (first-met _ _ (exact-met _ _ (ok .amplitudes-length))
-    (first-met _ _ (exact-met _ _ (ok .classes-length)) (first-met _ _ (exact-met _ _ (ok .sample-length)) (exact-met _ _ (ok .work-length)))))
-
-pub lengths-le : (N L s d blocks amplitudes classes sample work : ℕ) → lengths N L s d blocks amplitudes classes sample work ≤ 8
-lengths-le N L s d blocks amplitudes classes sample work =
-    let five : (length words : ℕ) → Check.exact length words ≤ 8 = λ length words. check-le (eqb length (4 * words)) 5 8 (omega arith) in
-    first-le _ _ 8 (five blocks _) (first-le _ _ 8 (five amplitudes _)
-    (first-le _ _ 8 (five classes _) (first-le _ _ 8 (five sample _) (five work _))))
-
--- ---- the words in them, a and c of them
-
-pub record Contents (M a c : ℕ) (amplitudes classes : List ℕ) : Type 0 where
-  pub small : (i : ℕ) → i < a → getD (words amplitudes) i 0 ≤ 2 ^ 31
-  pub below : (i : ℕ) → i < c → getD (words classes) i 0 < M
-
-module _ (M a c : ℕ) (amplitudes classes : List ℕ) (p : length amplitudes ≡ 4 * a) (q : length classes ≡ 4 * c) where
-  pub contents-held : contents M (words amplitudes) (words classes) ≡ 0 → Contents M a c amplitudes classes
-  contents-held e =
-      let both = first-none (Check.amplitudes (words amplitudes)) (Check.classes M (words classes)) e in
+module _ (j : Job) where
+  pub lengths-held : lengths j ≡ 0 → Lengths j
+  lengths-held e =
+      let x = j .numbers in
+      let p = parameters x in
+      let blocks = first-none (Check.exact (length (j .blocks)) (x .d * blockSize p)) _ e in
+      let amplitudes = first-none (Check.exact (length (j .amplitudes)) (x .d)) _ (blocks .1) in
+      let classes = first-none (Check.exact (length (j .classes)) (x .s * 2 ^ x .d)) _ (amplitudes .1) in
+      let written = first-none (Check.exact (length (j .sample)) (sampleSize p)) (Check.exact (length (j .work)) (sampleSize p * (x .d + 1))) (classes .1) in
       record {
-        small = λ i l. amplitudes-held (words amplitudes) (both .0) i (omega (arith, length-words amplitudes));
-        below = λ i l. classes-held M (words classes) (both .1) i (omega (arith, length-words classes));
+        blocks-length = exact-held _ _ (blocks .0);
+        amplitudes-length = exact-held _ _ (amplitudes .0);
+        classes-length = exact-held _ _ (classes .0);
+        sample-length = exact-held _ _ (written .0);
+        work-length = exact-held _ _ (written .1);
       }
 
-  pub contents-met : Contents M a c amplitudes classes → contents M (words amplitudes) (words classes) ≡ 0
-  contents-met ok =
-      first-met _ _
-      (amplitudes-met (words amplitudes) (λ i l. ok .small i (omega (arith, length-words amplitudes))))
-      (classes-met M (words classes) (λ i l. ok .below i (omega (arith, length-words classes))))
+  pub lengths-met : Lengths j → lengths j ≡ 0
+  lengths-met ok =
+      first-met _ _ (exact-met _ _ (ok .blocks-length)) (first-met _ _ (exact-met _ _ (ok .amplitudes-length))
+      (first-met _ _ (exact-met _ _ (ok .classes-length)) (first-met _ _ (exact-met _ _ (ok .sample-length)) (exact-met _ _ (ok .work-length)))))
 
-pub contents-le : (M : ℕ) (amplitudes classes : List ℕ) → contents M amplitudes classes ≤ 8
-contents-le M amplitudes classes =
-    first-le (Check.amplitudes amplitudes) (Check.classes M classes) 8 (check-le (Check.allBelow (2 ^ 31 + 1) amplitudes) 6 8 (omega arith)) (check-le (Check.allBelow M classes) 7 8 (omega arith))
+  pub lengths-other : lengths j ≡ 9 → ⊥
+  lengths-other =
+      let five : (length words : ℕ) → Check.exact length words ≡ 9 → ⊥ = λ length words. check-other (eqb length (4 * words)) 5 9 (omega arith) (λ e. omega arith) in
+      first-other _ _ 9 (five (length (j .blocks)) _) (first-other _ _ 9 (five (length (j .amplitudes)) _)
+      (first-other _ _ 9 (five (length (j .classes)) _) (first-other _ _ 9 (five (length (j .sample)) _) (five (length (j .work)) _))))
+
+  -- ---- the words in them
+
+  pub contents-held : Lengths j → contents j ≡ 0 → Contents j
+  contents-held fit e =
+      let both = first-none (Check.amplitudes (words (j .amplitudes))) (Check.classes (j .numbers .M) (words (j .classes))) e in
+      record {
+        small = λ i l. amplitudes-held (words (j .amplitudes)) (both .0) i (omega (arith, length-words (j .amplitudes), fit .amplitudes-length));
+        below = classes-held (j .numbers .M) (words (j .classes)) (both .1);
+      }
+
+  pub contents-met : Lengths j → Contents j → contents j ≡ 0
+  contents-met fit ok =
+      first-met _ _
+      (amplitudes-met (words (j .amplitudes)) (λ i l. ok .small i (omega (arith, length-words (j .amplitudes), fit .amplitudes-length))))
+      (classes-met (j .numbers .M) (words (j .classes)) (ok .below))
+
+  pub contents-other : contents j ≡ 9 → ⊥
+  contents-other =
+      first-other (Check.amplitudes (words (j .amplitudes))) (Check.classes (j .numbers .M) (words (j .classes))) 9
+      (check-other (Check.allBelow (2 ^ 31 + 1) (words (j .amplitudes))) 6 9 (omega arith) (λ e. omega arith))
+      (check-other (Check.allBelow (j .numbers .M) (words (j .classes))) 7 9 (omega arith) (λ e. omega arith))
 
 -- ---- the whole answer
 
 -- The rows of the call's answer, taken together as the code takes them.
-pub lookup-checks : (N g L M s d : ℕ) (blocks amplitudes classes sample work : List ℕ)
-    → (numbers N g L M s d
-    orElse lengths N L s d (length blocks) (length amplitudes) (length classes) (length sample) (length work)
-    orElse contents M (words amplitudes) (words classes)
-    orElse noise M (charges N 1 g L N (words amplitudes) d) (2 ^ d - 1))
-    ≡ lookup N g L M s d blocks amplitudes classes sample work
+pub lookup-checks : (j : Job) → let x = j .numbers in
+    (numbers x orElse lengths j orElse contents j orElse noise (x .M) (noiseBound j) (2 ^ x .d - 1)) ≡ lookup j
 unfolding lookup
-lookup-checks N g L M s d blocks amplitudes classes sample work =
-    ap (λ x. numbers N g L M s d
-    orElse lengths N L s d (length blocks) (length amplitudes) (length classes) (length sample) (length work) orElse x)
-    (first-orElse (Check.amplitudes (words amplitudes)) (Check.classes M (words classes)) _)
-    ∙ ap (λ x. numbers N g L M s d orElse x) (five-orElse _ _ _ _ _ _)
-    ∙ five-orElse (Check.degree N) (Check.gadget g L) (Check.classNumber M) (Check.count N s) (Check.depth d) _
+lookup-checks j =
+    let x = j .numbers in
+    ap (λ a. numbers x orElse lengths j orElse a) (first-orElse (Check.amplitudes (words (j .amplitudes))) (Check.classes (x .M) (words (j .classes))) _)
+    ∙ ap (λ a. numbers x orElse a) (five-orElse _ _ _ _ _ _)
+    ∙ five-orElse (Check.degree (x .N)) (Check.gadget (x .g) (x .L)) (Check.classNumber (x .M)) (Check.count (x .N) (x .s)) (Check.depth (x .d)) _

@@ -12,9 +12,10 @@ use lib.Seq.{take-at, length-take-le}
 use Rattle.torus.specs.Bytes.{words}
 use Rattle.torus.proofs.Joined.{chunk-inside}
 use Rattle.torus.proofs.Parts.{length-words, words-take}
-use Rattle.trgsw.specs.Block.{blockSize}
-use Rattle.trgsw.specs.External.{cmuxSample}
-use Rattle.lookup.specs.declared.tree.Parameters.{Parameters}
+use Rattle.trgsw.specs.declared.Parameters.{Parameters}
+use Rattle.lookup.specs.declared.Numbers.{Numbers}
+use Rattle.lookup.specs.Numbers.{parameters}
+use Rattle.trgsw.specs.Parameters.{sampleSize, blockSize, cmuxSample}
 use Rattle.lookup.specs.Lookup.{selector, treeSample}
 use Rattle.lookup.specs.Inner.{Run}
 use Rattle.lookup.proofs.Trees.{tree-none, tree-more}
@@ -36,15 +37,15 @@ entries-inside d e t u l h =
     omega (arith, mul-le-mul twice (le-refl (2 ^ e)), mul-le-mul (le-refl (suc t)) (power-below d e l))
 
 -- What a run of level d asks, and a level e below it.
-module _ (p : Parameters) (d e t : ℕ) (sample work blocks : ℕ) (classes : List ℕ) (l : e < d) (r : Run p d t sample work blocks classes) where
+module _ (x : Numbers) (d e t : ℕ) (sample work blocks : ℕ) (classes : List ℕ) (l : e < d) (r : Run x d t sample work blocks classes) where
   -- There is room for the level's own sample.
   pub own-inside : sample ≤ work
-  own-inside = omega (arith, chunk-inside e d (suc (p .k) * p .n) l, r .work-length, r .sample-length)
+  own-inside = omega (arith, chunk-inside e d (sampleSize (parameters x)) l, r .work-length, r .sample-length)
 
   -- Block e is among the blocks.
-  pub blocks-inside : 4 * (suc e * blockSize (p .n) (p .k) (p .l)) ≤ blocks
+  pub blocks-inside : 4 * (suc e * blockSize (parameters x)) ≤ blocks
   blocks-inside =
-      let B : ℕ = blockSize (p .n) (p .k) (p .l) in
+      let B : ℕ = blockSize (parameters x) in
       omega (arith, chunk-inside e d B l, suc-mul e B, r .blocks-length)
 
   -- The numbers of the runs that it joins are small.
@@ -55,19 +56,19 @@ module _ (p : Parameters) (d e t : ℕ) (sample work blocks : ℕ) (classes : Li
       omega (arith, mul-le-mul (le-refl (suc t)) two, r .entries)
 
   -- The run u of level e, in the rest of the work slice.
-  pub lower : (u rest : ℕ) → u ≤ 2 * t + 1 → rest + sample ≡ work → Run p e u sample rest blocks classes
+  pub lower : (u rest : ℕ) → u ≤ 2 * t + 1 → rest + sample ≡ work → Run x e u sample rest blocks classes
   lower u rest h w = record {
     entries = omega (arith, entries-inside d e t u l h, r .entries);
     sample-length = r .sample-length;
-    work-length = omega (arith, chunk-inside e d (suc (p .k) * p .n) l, r .work-length, r .sample-length);
-    blocks-length = omega (arith, chunk-inside e d (blockSize (p .n) (p .k) (p .l)) l, r .blocks-length);
-    classes-length = omega (arith, mul-le-mul (entries-inside d e t u l h) (le-refl (p .s)), r .classes-length);
+    work-length = omega (arith, chunk-inside e d (sampleSize (parameters x)) l, r .work-length, r .sample-length);
+    blocks-length = omega (arith, chunk-inside e d (blockSize (parameters x)) l, r .blocks-length);
+    classes-length = omega (arith, mul-le-mul (entries-inside d e t u l h) (le-refl (x .s)), r .classes-length);
     below = r .below;
   }
 
 -- A run of level 0 asks for no selector and no work.
-pub leaf : (p : Parameters) (d t sample work blocks : ℕ) (classes : List ℕ) → d ≡ 0 → Run p d t sample work blocks classes → Run p 0 t sample 0 0 classes
-leaf p d t sample work blocks classes z r = record {
+pub leaf : (x : Numbers) (d t sample work blocks : ℕ) (classes : List ℕ) → d ≡ 0 → Run x d t sample work blocks classes → Run x 0 t sample 0 0 classes
+leaf x d t sample work blocks classes z r = record {
   entries = rw z at (r .entries);
   sample-length = r .sample-length;
   work-length = omega arith;
@@ -77,9 +78,9 @@ leaf p d t sample work blocks classes z r = record {
 }
 
 -- The classes of an entry lie inside the table.
-pub entry-inside : (p : Parameters) (t sample work blocks : ℕ) (classes : List ℕ) → Run p 0 t sample work blocks classes
-    → 4 * (t * p .s + p .s) ≤ length classes
-entry-inside p t sample work blocks classes r = omega (arith, r .classes-length, ap (λ x. x * p .s) (mul-one (suc t)), suc-mul t (p .s))
+pub entry-inside : (x : Numbers) (t sample work blocks : ℕ) (classes : List ℕ) → Run x 0 t sample work blocks classes
+    → 4 * (t * x .s + x .s) ≤ length classes
+entry-inside x t sample work blocks classes r = omega (arith, r .classes-length, ap (λ n. n * x .s) (mul-one (suc t)), suc-mul t (x .s))
 
 -- ---- the gates on their way through the tree
 
@@ -119,20 +120,20 @@ front-kept S own q w ys o rest e lo inside made =
 
 -- ---- the tree's sample
 
-module _ (N k g L : ℕ) (blocks : List ℕ) (entry : ℕ → List ℕ) where
+module _ (p : Parameters) (blocks : List ℕ) (entry : ℕ → List ℕ) where
   -- A run of level 0 is an entry.
-  pub tree-sample-none : (d t : ℕ) → d ≡ 0 → treeSample N k g L blocks entry d t ≡ entry t
+  pub tree-sample-none : (d t : ℕ) → d ≡ 0 → treeSample p blocks entry d t ≡ entry t
   unfolding treeSample
   tree-sample-none d t z = tree-none _ entry d t z
 
   -- Selector e joins runs 2t and 2t + 1 of level e: the first is x, and the second, o, is kept at the front of the work slice w while the
   -- rest is lent and comes back as ys.
   pub tree-sample-more : (d e t own q : ℕ) (x o w ys rest : List ℕ) → d ≡ e + 1
-      → own ≡ 4 * (suc k * N) → length o ≡ own → own ≤ length w → words w ≡ words o ++ rest
-      → words o ≡ treeSample N k g L blocks entry e (2 * t + 1) → words x ≡ treeSample N k g L blocks entry e (2 * t)
-      → cmuxSample N k g L (selector N k L e blocks) (words x) (take (suc k * N) (words (take own w ++ (ys ++ drop q (drop own w)))))
-      ≡ treeSample N k g L blocks entry d t
+      → own ≡ 4 * sampleSize p → length o ≡ own → own ≤ length w → words w ≡ words o ++ rest
+      → words o ≡ treeSample p blocks entry e (2 * t + 1) → words x ≡ treeSample p blocks entry e (2 * t)
+      → cmuxSample p (selector p e blocks) (words x) (take (sampleSize p) (words (take own w ++ (ys ++ drop q (drop own w)))))
+      ≡ treeSample p blocks entry d t
   unfolding treeSample
   tree-sample-more d e t own q x o w ys rest level size len inside kept second first =
-      ap₂ (cmuxSample N k g L (selector N k L e blocks)) first (front-kept (suc k * N) own q w ys o rest size len inside kept ∙ second)
+      ap₂ (cmuxSample p (selector p e blocks)) first (front-kept (sampleSize p) own q w ys o rest size len inside kept ∙ second)
       ∙ sym (tree-more _ entry d e t level)

@@ -6,48 +6,37 @@ use mathlib.Core.List.{List}
 use Prim.Native.Nat.{ℕ, suc, _+_, _*_, _^_, _≤_, _<_}
 use lib.ListN.{length, getD}
 use Rattle.torus.specs.Bytes.{words}
-use Rattle.gadget.specs.Digits.{Lawful}
-use Rattle.ring.specs.Polynomial.{Degree}
-use Rattle.answers.specs.Checks.{ClassNumber}
 use Rattle.answers.specs.Checks as Check
-use Rattle.trgsw.specs.Block.{blockSize}
-use Rattle.lookup.specs.declared.tree.Parameters.{Parameters}
-
--- The numbers that the public call hands on: one mask, and keys of up to N ones.
-abbrev pub Public : (p : Parameters) (N g L M s : ℕ) → Type 0
-Public p N g L M s = (p .k ≡ 1) × (p .n ≡ N) × (p .g ≡ g) × (p .l ≡ L) × (p .w ≡ N) × (p .m ≡ M) × (p .s ≡ s)
-
--- Of the numbers of a lookup.
-pub record Admissible (p : Parameters) : Type 0 where
-  pub degree : Degree (p .n)
-  pub lawful : Lawful (p .g) (p .l)
-  pub masks : p .k ≤ 4
-  pub weight : p .w ≤ 4096
-  pub class-number : ClassNumber (p .m)
-  pub packed : p .s ≤ p .n
+use Rattle.trgsw.specs.Parameters.{sampleSize, blockSize}
+use Rattle.lookup.specs.declared.Numbers.{Numbers}
+use Rattle.lookup.specs.Numbers.{LawfulNumbers, parameters}
+use Rattle.lookup.specs.Job.{Job}
 
 -- Of the first d selectors: amplitudes up to 2^31.
-pub record Selectors (p : Parameters) (d : ℕ) (amplitudes : List ℕ) : Type 0 where
-  pub admissible : Admissible p
+pub record Selectors (x : Numbers) (d : ℕ) (amplitudes : List ℕ) : Type 0 where
+  pub lawful : LawfulNumbers x
   pub depth : d ≤ 16
   pub amplitudes-length : 4 * d ≤ length amplitudes
   pub small : (i : ℕ) → i < d → getD (words amplitudes) i 0 ≤ 2 ^ 31
 
 -- Of the slices, for run t of level d: their lengths in bytes, and classes below M.
-pub record Run (p : Parameters) (d t : ℕ) (sample work blocks : ℕ) (classes : List ℕ) : Type 0 where
+pub record Run (x : Numbers) (d t : ℕ) (sample work blocks : ℕ) (classes : List ℕ) : Type 0 where
   pub entries : suc t * 2 ^ d ≤ 65536
-  pub sample-length : sample ≡ 4 * (suc (p .k) * p .n)
-  pub work-length : 4 * (d * (suc (p .k) * p .n)) ≤ work
-  pub blocks-length : 4 * (d * blockSize (p .n) (p .k) (p .l)) ≤ blocks
-  pub classes-length : 4 * (suc t * 2 ^ d * p .s) ≤ length classes
-  pub below : (i : ℕ) → i < length (words classes) → getD (words classes) i 0 < p .m
+  pub sample-length : sample ≡ 4 * sampleSize (parameters x)
+  pub work-length : 4 * (d * sampleSize (parameters x)) ≤ work
+  pub blocks-length : 4 * (d * blockSize (parameters x)) ≤ blocks
+  pub classes-length : 4 * (suc t * 2 ^ d * x .s) ≤ length classes
+  pub below : (i : ℕ) → i < length (words classes) → getD (words classes) i 0 < x .M
 
--- Refusal 5 of the slices, by their lengths in bytes, or 0.
-abbrev pub lengths : (N L s d blocks amplitudes classes sample work : ℕ) → ℕ
-lengths N L s d blocks amplitudes classes sample work =
-    Check.first (Check.exact blocks (d * (4 * L * N))) (Check.first (Check.exact amplitudes d) (Check.first (Check.exact classes (s * 2 ^ d))
-    (Check.first (Check.exact sample (2 * N)) (Check.exact work (2 * N * (d + 1))))))
+-- Refusal 5 of the slices, or 0.
+abbrev pub lengths : Job → ℕ
+lengths j =
+    let x = j .numbers in
+    let p = parameters x in
+    Check.first (Check.exact (length (j .blocks)) (x .d * blockSize p)) (Check.first (Check.exact (length (j .amplitudes)) (x .d))
+    (Check.first (Check.exact (length (j .classes)) (x .s * 2 ^ x .d)) (Check.first (Check.exact (length (j .sample)) (sampleSize p))
+    (Check.exact (length (j .work)) (sampleSize p * (x .d + 1))))))
 
 -- Refusals 6 and 7 of the words in them, or 0.
-abbrev pub contents : (M : ℕ) (amplitudes classes : List ℕ) → ℕ
-contents M amplitudes classes = Check.first (Check.amplitudes amplitudes) (Check.classes M classes)
+abbrev pub contents : Job → ℕ
+contents j = Check.first (Check.amplitudes (words (j .amplitudes))) (Check.classes (j .numbers .M) (words (j .classes)))

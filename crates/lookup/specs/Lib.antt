@@ -1,5 +1,7 @@
 pub mod Numbers
 pub mod Tree
+pub mod Job
 pub mod Lookup
-pub mod Inner
 pub mod Calls
+pub mod Rule
+pub mod Inner

@@ -1,54 +1,63 @@
 // What refuses a lookup before its noise is judged. Each function gives the number of the first refusal that applies, or 0.
+use crate::Numbers;
 ghost use mathlib.Core.Path.{_≡_};
-ghost use Prim.Native.Nat.{_≤_};
 ghost use lib.ListN.{length};
 ghost use Rattle.torus.specs.Bytes.{words};
-ghost use Rattle.lookup.specs.Numbers as Numbers;
+ghost use Rattle.answers.specs.Checks as Check;
+ghost use Rattle.lookup.specs.Numbers.{LawfulNumbers, numbers};
 ghost use Rattle.lookup.specs.Inner as Inner;
 
 // 1 to 4: the numbers.
-pub fn check_numbers(n: u64, g: u64, l: u64, m: u64, s: u64, d: u64) -> u32
-    ensures { λ r. ⌜ r ≡ Numbers.numbers n g l m s d ⌝ }
+pub fn check_numbers(x: Numbers) -> u32
+    ensures { λ r. ⌜ r ≡ numbers x ⌝ }
 {
-    let sizes = answers::first(answers::count(n, s), answers::depth(d));
-    let classes = answers::first(answers::class_number(m), sizes);
-    let gadget = answers::first(answers::gadget(g, l), classes);
-    answers::first(answers::degree(n), gadget)
+    let sizes = answers::first(answers::count(x.N, x.s), answers::depth(x.d));
+    let classes = answers::first(answers::class_number(x.M), sizes);
+    let gadget = answers::first(answers::gadget(x.g, x.L), classes);
+    answers::first(answers::degree(x.N), gadget)
 }
 
 // 5: the lengths of the slices.
 pub fn check_lengths(
-    n: u64,
-    l: u64,
-    s: u64,
-    d: u64,
+    x: Numbers,
     blocks: &[u8],
     amplitudes: &[u8],
     classes: &[u8],
     sample: &[u8],
     work: &[u8],
 ) -> u32
-    requires { ⌜ (n ≤ 1024) × (l ≤ 32) × (s ≤ 1024) × (d ≤ 10) ⌝ }
-    ensures { λ r. ⌜ r ≡ Inner.lengths n l s d (length (now (blocks .entry))) (length (now (amplitudes .entry)))
-        (length (now (classes .entry))) (length (now (sample .entry))) (length (now (work .entry))) ⌝ }
+    requires { ⌜ LawfulNumbers x ⌝ }
+    ensures { λ r. ⌜ r ≡ Inner.lengths (record {
+      numbers = x;
+      blocks = now (blocks .entry);
+      amplitudes = now (amplitudes .entry);
+      classes = now (classes .entry);
+      sample = now (sample .entry);
+      work = now (work .entry);
+    }) ⌝ }
 {
+    let own = crate::sample_size(x);
     let written = answers::first(
-        answers::exact(sample.len(), 2 * n),
-        answers::exact(work.len(), 2 * n * (d + 1)),
+        answers::exact(sample.len(), own),
+        answers::exact(work.len(), own * (x.d + 1)),
     );
     let table = answers::first(
-        answers::exact(classes.len(), s * crate::entries(d)),
+        answers::exact(classes.len(), x.s * crate::entries(x.d)),
         written,
     );
-    let declared = answers::first(answers::exact(amplitudes.len(), d), table);
-    answers::first(answers::exact(blocks.len(), d * (4 * l * n)), declared)
+    let declared = answers::first(answers::exact(amplitudes.len(), x.d), table);
+    answers::first(
+        answers::exact(blocks.len(), x.d * crate::block_size(x)),
+        declared,
+    )
 }
 
 // 6 and 7: the amplitudes and the classes.
-pub fn check_contents(m: u64, amplitudes: &[u8], classes: &[u8]) -> u32
-    ensures { λ r. ⌜ r ≡ Inner.contents m (words (now (amplitudes .entry))) (words (now (classes .entry))) ⌝ }
+pub fn check_contents(x: Numbers, amplitudes: &[u8], classes: &[u8]) -> u32
+    ensures { λ r. ⌜ r ≡ Check.first (Check.amplitudes (words (now (amplitudes .entry))))
+        (Check.classes (x .M) (words (now (classes .entry)))) ⌝ }
 {
     let lawful_amplitudes = answers::amplitudes(amplitudes);
-    let lawful_classes = answers::classes(m, classes);
+    let lawful_classes = answers::classes(x.M, classes);
     answers::first(lawful_amplitudes, lawful_classes)
 }

@@ -1,16 +1,27 @@
 // Lookups: the entry of a public table that encrypted selector bits name, as a sample, without the key. Inside, samples have k
-// masks; the public call passes k = 1.
+// masks; the public call has k = 1.
 pub mod checks;
 pub mod tree;
 
-use crate::tree::Parameters;
 use answers::Answer;
+use trgsw::Parameters;
 ghost use mathlib.Core.Path.{_≡_};
 ghost use Prim.Native.Nat.{_^_, _≤_};
-ghost use Rattle.ring.specs.Polynomial.{Degree};
-ghost use Rattle.gadget.specs.Digits.{Lawful};
-ghost use Rattle.lookup.specs.Inner as Inner;
+ghost use Rattle.trgsw.specs.Parameters.{sampleSize, blockSize};
+ghost use Rattle.lookup.specs.Numbers.{LawfulNumbers, parameters};
+ghost use Rattle.lookup.specs.Job.{Job};
 ghost use Rattle.lookup.specs.Calls as Calls;
+
+// The numbers of a lookup, by document 01's letters: degree N, a gadget of L digits in base 2^g, M classes, s of them in an entry, and d
+// selectors.
+pub struct Numbers {
+    pub N: u64,
+    pub g: u64,
+    pub L: u64,
+    pub M: u64,
+    pub s: u64,
+    pub d: u64,
+}
 
 // The number of entries: 2^d.
 pub fn entries(d: u64) -> u64
@@ -20,92 +31,98 @@ pub fn entries(d: u64) -> u64
     1u64 << d as u32
 }
 
-// The numbers of the public call: one mask, and keys of up to n ones.
-fn parameters(n: u64, g: u64, l: u64, m: u64, s: u64) -> Parameters
-    requires { ⌜ Degree n × Lawful g l × (s ≤ n) ⌝ }
-    ensures { λ p. ⌜ Inner.Public p n g l m s ⌝ }
+// The parameter set of a lookup: one mask, and keys of up to N ones.
+pub fn parameters(x: Numbers) -> Parameters
+    requires { ⌜ LawfulNumbers x ⌝ }
+    ensures { λ p. ⌜ p ≡ parameters x ⌝ }
 {
-    let degree = n as usize;
-    let bits = g as u32;
-    let digits = l as u32;
-    let packed = s as usize;
+    let degree = x.N as usize;
+    let bits = x.g as u32;
+    let digits = x.L as u32;
     Parameters {
+        N: degree,
         k: 1,
-        n: degree,
         g: bits,
-        l: digits,
-        w: n,
-        m,
-        s: packed,
+        L: digits,
+        W: x.N,
     }
+}
+
+// The words of a sample.
+pub fn sample_size(x: Numbers) -> u64
+    requires { ⌜ LawfulNumbers x ⌝ }
+    ensures { λ r. ⌜ (r ≡ sampleSize (parameters x)) × (r ≤ 5120) ⌝ }
+{
+    let p = parameters(x);
+    (p.k as u64 + 1) * x.N
+}
+
+// The words of a block: as many samples as it has rows.
+pub fn block_size(x: Numbers) -> u64
+    requires { ⌜ LawfulNumbers x ⌝ }
+    ensures { λ r. ⌜ (r ≡ blockSize (parameters x)) × (r ≤ 819200) ⌝ }
+{
+    let p = parameters(x);
+    (p.k as u64 + 1) * x.L * sample_size(x)
 }
 
 // What lookup answers.
 pub fn lookup_answer(
-    n: u64,
-    g: u64,
-    l: u64,
-    m: u64,
-    s: u64,
-    d: u64,
+    x: Numbers,
     blocks: &[u8],
     amplitudes: &[u8],
     classes: &[u8],
     sample: &[u8],
     work: &[u8],
 ) -> Answer
-    ensures { λ r. ⌜ r ≡ Calls.lookup n g l m s d
-        (now (blocks .entry)) (now (amplitudes .entry)) (now (classes .entry)) (now (sample .entry)) (now (work .entry)) ⌝ }
+    ensures { λ r. ⌜ r ≡ Calls.lookup (record {
+      numbers = x;
+      blocks = now (blocks .entry);
+      amplitudes = now (amplitudes .entry);
+      classes = now (classes .entry);
+      sample = now (sample .entry);
+      work = now (work .entry);
+    }) ⌝ }
 {
-    let numbers = checks::check_numbers(n, g, l, m, s, d);
+    let numbers = checks::check_numbers(x);
     if numbers != 0 {
         return Answer::Refused(numbers);
     }
-    let lengths = checks::check_lengths(n, l, s, d, blocks, amplitudes, classes, sample, work);
+    let lengths = checks::check_lengths(x, blocks, amplitudes, classes, sample, work);
     if lengths != 0 {
         return Answer::Refused(lengths);
     }
-    let contents = checks::check_contents(m, amplitudes, classes);
+    let contents = checks::check_contents(x, amplitudes, classes);
     if contents != 0 {
         return Answer::Refused(contents);
     }
-    let bound = tree::charges(amplitudes, parameters(n, g, l, m, s), d as usize);
-    answers::noise(m, bound, entries(d) - 1)
+    let bound = tree::charges(amplitudes, x, x.d as usize);
+    answers::noise(x.M, bound, entries(x.d) - 1)
 }
 
 // The entry that the bits of d selector blocks name, each block within its declared amplitude; there are 2^d entries of s classes.
 // Answers with the noise bound and the gates.
 pub fn lookup(
-    n: u64,
-    g: u64,
-    l: u64,
-    m: u64,
-    s: u64,
-    d: u64,
+    x: Numbers,
     blocks: &[u8],
     amplitudes: &[u8],
     classes: &[u8],
     sample: &mut [u8],
     work: &mut [u8],
 ) -> Answer
-    ensures { λ r. ⌜ (r ≡ Calls.lookup n g l m s d
-        (now (blocks .entry)) (now (amplitudes .entry)) (now (classes .entry)) (now (sample .entry)) (now (work .entry)))
-        × (now (sample .exit) ≡ Calls.lookupSample n g l m s d
-        (now (blocks .entry)) (now (amplitudes .entry)) (now (classes .entry)) (now (sample .entry)) (now (work .entry)))
-        × (now (work .exit) ≡ Calls.lookupWork n g l m s d
-        (now (blocks .entry)) (now (amplitudes .entry)) (now (classes .entry)) (now (sample .entry)) (now (work .entry))) ⌝ }
+    ensures { λ r. ⌜ (let j : Job = record {
+      numbers = x;
+      blocks = now (blocks .entry);
+      amplitudes = now (amplitudes .entry);
+      classes = now (classes .entry);
+      sample = now (sample .entry);
+      work = now (work .entry);
+    } in
+        (r ≡ Calls.lookup j) × (now (sample .exit) ≡ Calls.lookupSample j) × (now (work .exit) ≡ Calls.lookupWork j)) ⌝ }
 {
-    let answer = lookup_answer(n, g, l, m, s, d, blocks, amplitudes, classes, sample, work);
+    let answer = lookup_answer(x, blocks, amplitudes, classes, sample, work);
     if answer.number() != 0 {
         return answer;
     }
-    Answer::Accepted(tree::evaluate(
-        sample,
-        work,
-        blocks,
-        amplitudes,
-        classes,
-        parameters(n, g, l, m, s),
-        d as usize,
-    ))
+    Answer::Accepted(tree::evaluate(sample, work, blocks, amplitudes, classes, x))
 }

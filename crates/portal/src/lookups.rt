@@ -1,6 +1,8 @@
 // The lookup.
+use lookup::Numbers;
 ghost use mathlib.Core.Path.{_≡_};
 ghost use Rattle.answers.specs.Answers.{number, bound, gates};
+ghost use Rattle.lookup.specs.Job.{Job};
 ghost use Rattle.lookup.specs.Calls as Lookups;
 
 #[no_mangle]
@@ -17,14 +19,31 @@ pub extern "C" fn cikenuma_lookup(
     sample: &mut [u8],
     work: &mut [u8],
 ) -> u32
-    ensures { λ r. ⌜ (r ≡ number (Lookups.lookup n g l m s d
-        (now (blocks .entry)) (now (amplitudes .entry)) (now (classes .entry)) (now (sample .entry)) (now (work .entry))))
-        × (now (sample .exit) ≡ Lookups.lookupSample n g l m s d
-        (now (blocks .entry)) (now (amplitudes .entry)) (now (classes .entry)) (now (sample .entry)) (now (work .entry)))
-        × (now (work .exit) ≡ Lookups.lookupWork n g l m s d
-        (now (blocks .entry)) (now (amplitudes .entry)) (now (classes .entry)) (now (sample .entry)) (now (work .entry))) ⌝ }
+    ensures { λ r. ⌜ (let j : Job = record {
+      numbers = record { N = n; g = g; L = l; M = m; s = s; d = d };
+      blocks = now (blocks .entry);
+      amplitudes = now (amplitudes .entry);
+      classes = now (classes .entry);
+      sample = now (sample .entry);
+      work = now (work .entry);
+    } in
+        (r ≡ number (Lookups.lookup j)) × (now (sample .exit) ≡ Lookups.lookupSample j) × (now (work .exit) ≡ Lookups.lookupWork j)) ⌝ }
 {
-    lookup::lookup(n, g, l, m, s, d, blocks, amplitudes, classes, sample, work).number()
+    lookup::lookup(
+        Numbers {
+            N: n,
+            g,
+            L: l,
+            M: m,
+            s,
+            d,
+        },
+        blocks,
+        amplitudes,
+        classes,
+        sample,
+        work,
+    ).number()
 }
 
 #[no_mangle]
@@ -41,10 +60,30 @@ pub extern "C" fn cikenuma_lookup_bound(
     sample: &[u8],
     work: &[u8],
 ) -> u64
-    ensures { λ r. ⌜ r ≡ bound (Lookups.lookup n g l m s d
-        (now (blocks .entry)) (now (amplitudes .entry)) (now (classes .entry)) (now (sample .entry)) (now (work .entry))) ⌝ }
+    ensures { λ r. ⌜ r ≡ bound (Lookups.lookup (record {
+      numbers = record { N = n; g = g; L = l; M = m; s = s; d = d };
+      blocks = now (blocks .entry);
+      amplitudes = now (amplitudes .entry);
+      classes = now (classes .entry);
+      sample = now (sample .entry);
+      work = now (work .entry);
+    })) ⌝ }
 {
-    lookup::lookup_answer(n, g, l, m, s, d, blocks, amplitudes, classes, sample, work).bound()
+    lookup::lookup_answer(
+        Numbers {
+            N: n,
+            g,
+            L: l,
+            M: m,
+            s,
+            d,
+        },
+        blocks,
+        amplitudes,
+        classes,
+        sample,
+        work,
+    ).bound()
 }
 
 #[no_mangle]
@@ -61,8 +100,28 @@ pub extern "C" fn cikenuma_lookup_gates(
     sample: &[u8],
     work: &[u8],
 ) -> u64
-    ensures { λ r. ⌜ r ≡ gates (Lookups.lookup n g l m s d
-        (now (blocks .entry)) (now (amplitudes .entry)) (now (classes .entry)) (now (sample .entry)) (now (work .entry))) ⌝ }
+    ensures { λ r. ⌜ r ≡ gates (Lookups.lookup (record {
+      numbers = record { N = n; g = g; L = l; M = m; s = s; d = d };
+      blocks = now (blocks .entry);
+      amplitudes = now (amplitudes .entry);
+      classes = now (classes .entry);
+      sample = now (sample .entry);
+      work = now (work .entry);
+    })) ⌝ }
 {
-    lookup::lookup_answer(n, g, l, m, s, d, blocks, amplitudes, classes, sample, work).gates()
+    lookup::lookup_answer(
+        Numbers {
+            N: n,
+            g,
+            L: l,
+            M: m,
+            s,
+            d,
+        },
+        blocks,
+        amplitudes,
+        classes,
+        sample,
+        work,
+    ).gates()
 }

@@ -1,3 +1,4 @@
 pub mod Block
 pub mod External
+pub mod Parameters
 pub mod Calls

@@ -7,6 +7,15 @@ pub mod selector;
 ghost use mathlib.Core.Path.{_≡_};
 ghost use Rattle.trgsw.specs.External as External;
 
+// A parameter set: degree N, k masks, a gadget of L digits in base 2^g, and keys of up to W ones.
+pub struct Parameters {
+    pub N: usize,
+    pub k: usize,
+    pub g: u32,
+    pub L: u32,
+    pub W: u64,
+}
+
 // A CMux's charge: what it adds to the noise, with a block within a under a key of at most w ones.
 pub fn charge(n: u64, k: u64, g: u32, l: u32, w: u64, a: u64) -> u64
     requires { ⌜ External.Chargeable n k g l w a ⌝ }

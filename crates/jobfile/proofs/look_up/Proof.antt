@@ -3,21 +3,22 @@ use native.Mathlib.Omega.{arith}
 use mathlib.Core.Path.{ap, _∙_}
 use Prim.Native.Nat.{_*_, _≤_}
 use Rattle.torus.proofs.Parts.{front-length}
+use Rattle.lookup.specs.Numbers.{LawfulNumbers}
 use Rattle.jobfile.proofs.Held.{held-lawful, held-size}
 use borrow.Author.Needs.{needs}
 use Rattle.jobfile.proofs.look_up.Statement.{statement}
 use Rattle.jobfile.proofs.look_up.Tie as tie
 
-lawful : (s : tie.Start) → let x = s .args .x in (x .n ≤ 1024) × (x .l ≤ 32) × (x .d ≤ 10)
+lawful : (s : tie.Start) → LawfulNumbers (s .args .x)
 lawful s = held-lawful (s .args .file .now) (s .args .x) (s .pre .0) (s .pre .1)
 
 -- The blocks and the amplitudes fit their rooms.
-fits : (c : tie.After-block-words) → let x = c .before .before .before .before .args .x in
-    (4 * (x .d * c .block-words .result) ≤ 65536) × (4 * x .d ≤ 40)
+fits : (c : tie.After-block-size) → let x = c .before .before .before .before .args .x in
+    (4 * (x .d * c .block-size .result) ≤ 65536) × (4 * x .d ≤ 40)
 fits c =
     let s = c .before .before .before .before in
-    let size = held-size (s .args .file .now) (s .args .x) (s .pre .0) (s .pre .1) (c .block-words .result) (c .block-words .ensures .0) in
-    (omega (arith, size), omega (arith, lawful s .2))
+    let size = held-size (s .args .file .now) (s .args .x) (s .pre .0) (s .pre .1) (c .block-size .result) (c .block-size .ensures .0) in
+    (omega (arith, size), omega (arith, lawful s .depth))
 
 blocks-room-requires : tie.Need-blocks-room-requires
 blocks-room-requires c κs = search needs
@@ -25,10 +26,8 @@ blocks-room-requires c κs = search needs
 amplitudes-room-requires : tie.Need-amplitudes-room-requires
 amplitudes-room-requires c κs = search needs
 
-block-words-requires : tie.Need-block-words-requires
-block-words-requires c κs =
-    let ok = lawful (c .before .before .before) in
-    (ok .0, ok .1)
+block-size-requires : tie.Need-block-size-requires
+block-size-requires c κs = lawful (c .before .before .before)
 
 mul-blocks-size : tie.Need-mul-blocks-size
 mul-blocks-size c = omega (arith, fits (c .before))
@@ -65,8 +64,8 @@ look-up-with-requires c κs =
     let f = fits u in (
       s .pre .0,
       s .pre .1,
-      front-length (4 * (x .d * u .block-words .result)) _ (omega (arith, f, u .before .before .blocks-room .ensures))
-          ∙ ap (λ b. 4 * (x .d * b)) (u .block-words .ensures .0),
+      front-length (4 * (x .d * u .block-size .result)) _ (omega (arith, f, u .before .before .blocks-room .ensures))
+          ∙ ap (λ b. 4 * (x .d * b)) (u .block-size .ensures .0),
       front-length (4 * x .d) _ (omega (arith, f, u .before .amplitudes-room .ensures)),
     )
 
@@ -79,7 +78,7 @@ look-up-spec =
     (tie.spec
     blocks-room-requires
     amplitudes-room-requires
-    block-words-requires
+    block-size-requires
     mul-blocks-size
     mul-blocks-size-2
     mul-amplitudes-size

@@ -4,31 +4,30 @@ use mathlib.Core.Path.{_≡_, sym, ap, _∙_}
 use mathlib.Core.List.{List}
 use Prim.Native.Nat.{ℕ, _+_, _-_, _*_, _≤_}
 use lib.ListN.{length, take, drop, length-drop}
-use Rattle.trgsw.specs.Block.{blockSize}
 use Rattle.torus.proofs.Parts.{back-all}
+use Rattle.lookup.specs.Numbers.{LawfulNumbers, parameters}
+use Rattle.trgsw.specs.Parameters.{blockSize}
 use Rattle.jobfile.proofs.Held.{held-lawful, held-size, blocks-bytes, amplitudes-bytes, classes-bytes, told}
 use borrow.Author.Needs.{needs}
 use Rattle.jobfile.proofs.look_up_with.Statement.{statement}
 use Rattle.jobfile.proofs.look_up_with.Tie as tie
 
-lawful : (s : tie.Start) → let x = s .args .x in (x .n ≤ 1024) × (x .l ≤ 32) × (x .d ≤ 10)
+lawful : (s : tie.Start) → LawfulNumbers (s .args .x)
 lawful s = held-lawful (s .args .file .now) (s .args .x) (s .pre .0) (s .pre .1)
 
 -- Section two and the count of section three are there.
-there : (c : tie.After-block-words) → let a = c .before .before .before .before .args in
-    (32 + 4 * (a .x .d * (1 + c .block-words .result)) ≤ length (a .file .now)) × (length (a .file .now) ≤ 65536)
+there : (c : tie.After-block-size) → let a = c .before .before .before .before .args in
+    (32 + 4 * (a .x .d * (1 + c .block-size .result)) ≤ length (a .file .now)) × (length (a .file .now) ≤ 65536)
 there c =
     let s = c .before .before .before .before in
-    let size = held-size (s .args .file .now) (s .args .x) (s .pre .0) (s .pre .1) (c .block-words .result) (c .block-words .ensures .0) in
+    let size = held-size (s .args .file .now) (s .args .x) (s .pre .0) (s .pre .1) (c .block-size .result) (c .block-size .ensures .0) in
     (omega (arith, size), size .1)
 
 rest-length : (file : List ℕ) → length (take (length file - 28) (drop 28 file)) ≡ length file - 28
 rest-length file = ap length (back-all 28 file) ∙ length-drop 28 file
 
-block-words-requires : tie.Need-block-words-requires
-block-words-requires c κs =
-    let ok = lawful (c .before .before .before) in
-    (ok .0, ok .1)
+block-size-requires : tie.Need-block-size-requires
+block-size-requires c κs = lawful (c .before .before .before)
 
 add-table : tie.Need-add-table
 add-table c = search needs
@@ -55,9 +54,9 @@ gather-blocks-requires : tie.Need-gather-blocks-requires
 gather-blocks-requires c κs =
     let u = c .before .before in
     let s = u .before .before .before .before in (
-      s .pre .2 ∙ ap (λ b. 4 * (s .args .x .d * b)) (sym (u .block-words .ensures .0)),
+      s .pre .2 ∙ ap (λ b. 4 * (s .args .x .d * b)) (sym (u .block-size .ensures .0)),
       omega (arith, there u, rest-length (s .args .file .now)),
-      u .block-words .ensures .1,
+      u .block-size .ensures .1,
     )
 
 sub-gather-amplitudes : tie.Need-sub-gather-amplitudes
@@ -73,7 +72,7 @@ gather-amplitudes-requires : tie.Need-gather-amplitudes-requires
 gather-amplitudes-requires c κs =
     let u = c .before .before .before .before .before .before .before in
     let s = u .before .before .before .before in
-    (s .pre .3, omega (arith, there u, rest-length (s .args .file .now)), u .block-words .ensures .1)
+    (s .pre .3, omega (arith, there u, rest-length (s .args .file .now)), u .block-size .ensures .1)
 
 sub-evaluate : tie.Need-sub-evaluate
 sub-evaluate c = omega (arith, there (c .before .before .before .before .before .before .before .before .before .before .before .before))
@@ -86,8 +85,7 @@ part-evaluate-end c = search needs
 
 evaluate-requires : tie.Need-evaluate-requires
 evaluate-requires c κs =
-    let ok = lawful (c .before .before .before .before .before .before .before .before .before .before .before .before .before .before .before .before .before) in
-    (ok .0, ok .2)
+    lawful (c .before .before .before .before .before .before .before .before .before .before .before .before .before .before .before .before .before)
 
 same-length : tie.Need-same-length
 same-length c = search needs
@@ -100,11 +98,11 @@ returns c =
     let u = c .before .before .before .before .before .before .before .before .before .before .before .before .before .before in
     let s = u .before .before .before .before in
     let a = s .args in
-    let e = u .block-words .ensures .0 in
+    let e = u .block-size .ensures .0 in
     let G = c .before .before .before .before .before .before .before .before .before .before .before .gather-blocks in
     let A = c .before .before .before .before .before .before .gather-amplitudes in
     told (a .file .now) (a .x) _ _ _ _ (s .pre .0) (s .pre .1)
-    (blocks-bytes _ _ _ (s .pre .1) e (a .x .d * blockSize (a .x .n) 1 (a .x .l)) _ (omega (arith, G .kept .0, s .pre .2)) (λ i. c .before .before .before .before .before .before .before .before .before .slice-known3 .given i .fits) (G .ensures))
+    (blocks-bytes _ _ _ (s .pre .1) e (a .x .d * blockSize (parameters (a .x))) _ (omega (arith, G .kept .0, s .pre .2)) (λ i. c .before .before .before .before .before .before .before .before .before .slice-known3 .given i .fits) (G .ensures))
     (amplitudes-bytes _ _ _ (s .pre .1) e (a .x .d) _ (omega (arith, A .kept .0, s .pre .3)) (λ i. c .before .before .before .before .slice-known4 .given i .fits) (A .ensures))
     (classes-bytes _ _ _ (s .pre .1) e _ (held-size _ _ (s .pre .0) (s .pre .1) _ e .0) (λ i. u .before .shared-slice-known .given i .fits))
     (c .evaluate .ensures)
@@ -113,7 +111,7 @@ pub look-up-with-spec : {M : Type 1} → statement M
 look-up-with-spec =
     tie.close
     (tie.spec
-    block-words-requires
+    block-size-requires
     add-table
     mul-table
     mul-table-2

@@ -6,28 +6,33 @@ use lib.ListN.{replicate}
 use borrow.Author.Needs.{needs}
 use Rattle.answers.specs.Answers.{number}
 use Rattle.answers.proofs.Laws.{after-refused, after-accepted, after-written}
-use Rattle.answers.specs.declared.Answer.{Answer}
 use Rattle.answers.specs.declared.Answer.the-variants.{Accepted}
+use Rattle.trgsw.specs.Parameters.{sampleSize}
+use Rattle.lookup.specs.Numbers.{parameters}
+use Rattle.lookup.specs.Job.{Job}
 use Rattle.lookup.specs.Calls as Calls
 use Rattle.lookup.proofs.Accepted.{Findable, lookup-accepted, lookup-accepts}
-use Rattle.lookup.proofs.Public.{public-selectors, public-run, cleared}
+use Rattle.lookup.proofs.Public.{job-selectors, job-run, cleared}
 use Rattle.lookup.proofs.lookup.Statement.{statement}
 use Rattle.lookup.proofs.lookup.Tie as tie
 
--- What the call answers.
-abbrev answer : tie.Start → Answer
-answer s =
-    let a = s .args in
-    Calls.lookup (a .n) (a .g) (a .l) (a .m) (a .s) (a .d) (a .blocks .now) (a .amplitudes .now) (a .classes .now) (a .sample .now) (a .work .now)
+-- The job, seen from where its answer is known.
+abbrev job : tie.After-lookup-answer → Job
+job c =
+    let a = c .before .before .before .before .before .before .before .before .args in
+    record { numbers = a .x; blocks = a .blocks .now; amplitudes = a .amplitudes .now; classes = a .classes .now; sample = a .sample .now; work = a .work .now }
 
 -- The number that is tested is its number.
-answered : (c : tie.After-number) → c .number .result ≡ number (answer (c .before .before .before .before .before .before .before .before .before))
+answered : (c : tie.After-number) → c .number .result ≡ number (Calls.lookup (job (c .before)))
 answered c = c .number .ensures ∙ ap number (c .before .lookup-answer .ensures)
 
--- What holds of the arguments past the test.
-fit : (c : tie.Else1) → let a = c .before .before .before .before .before .before .before .before .before .before .args in
-    Findable (a .n) (a .g) (a .l) (a .m) (a .s) (a .d) (a .blocks .now) (a .amplitudes .now) (a .classes .now) (a .sample .now) (a .work .now)
-fit c = lookup-accepted _ _ _ _ _ _ _ _ _ _ _ (sym (answered (c .before)) ∙ c .if1 .left)
+-- Past the test it is accepted.
+accepted : (c : tie.Else1) → Calls.IsAccepted (job (c .before .before))
+accepted c = sym (answered (c .before)) ∙ c .if1 .left
+
+-- What holds of it then.
+fit : (c : tie.Else1) → Findable (job (c .before .before))
+fit c = lookup-accepted _ (accepted c)
 
 lookup-answer-requires : tie.Need-lookup-answer-requires
 lookup-answer-requires c κs = search needs
@@ -50,19 +55,11 @@ returns c =
       after-refused _ _ _ (λ z. c .if1 .taken (e ∙ z)),
     )
 
-parameters-requires : tie.Need-parameters-requires
-parameters-requires c κs =
-    let f = fit (c .before .before) in
-    (f .job .numbers .degree, f .job .numbers .gadget, f .job .numbers .most)
-
 evaluate-requires : tie.Need-evaluate-requires
 evaluate-requires c κs =
-    let f = fit (c .before .before .before) in
-    let e = c .parameters .ensures in (
-      public-selectors _ _ _ _ _ _ _ _ e (f .job .numbers) (f .job .lengths .amplitudes-length) (f .job .contents .small),
-      public-run _ _ _ _ _ _ _ _ _ _ _ _ e f,
-      omega (arith, f .job .lengths .work-length),
-    )
+    let j = job (c .before .before .before .before) in
+    let f = fit (c .before .before) .job in
+    (job-selectors j f, job-run j f, omega (arith, f .lengths .work-length))
 
 same-length-3 : tie.Need-same-length-3
 same-length-3 c = search needs
@@ -73,20 +70,17 @@ same-length-4 c = search needs
 returns-2 : tie.Need-returns-2
 unfolding Calls.lookupSample Calls.lookupWork
 returns-2 c =
-    let s = c .before .before .before .before .before .before .before .before .before .before .before .before .before .before .before .before .before .before in
-    let a = s .args in
-    let f = fit (c .before .before .before .before .before .before .before .before) in
-    let z : number (answer s) ≡ 0 = sym (answered (c .before .before .before .before .before .before .before .before .before)) ∙ c .before .before .before .before .before .before .before .before .if1 .left in
-    let e = c .before .before .before .before .before .parameters .ensures in
+    let past = c .before .before .before .before .before .before .before in
+    let j = job (past .before .before) in
+    let f = fit past in
+    let own = sampleSize (parameters (j .numbers)) in
     let E = c .before .before .before .before .evaluate in (
-      ap₂ (λ (b g : ℕ). Accepted (record { bound = b; gates = g }))
-          (rw (E .ensures .2, e .0, e .1, e .2, e .3, e .4)) (E .ensures .3)
-          ∙ sym (lookup-accepts _ _ _ _ _ _ _ _ _ _ _ f),
-      after-accepted (answer s) (2 * a .n) _ _ _ z (omega (arith, E .kept .0, f .job .lengths .sample-length)) (λ i. c .before .before .slice-known3 .given i .fits)
-          (rw (E .ensures .0, e .0, e .1, e .2, e .3, e .5, e .6)),
-      cleared (2 * a .n * (a .d + 1)) _ (omega (arith, E .kept .1 .0, f .job .lengths .work-length)) (λ i. c .slice-known4 .given i .fits)
+      ap₂ (λ (b g : ℕ). Accepted (record { bound = b; gates = g })) (E .ensures .2) (E .ensures .3) ∙ sym (lookup-accepts j f),
+      after-accepted (Calls.lookup j) own _ _ _ (accepted past) (omega (arith, E .kept .0, f .job .lengths .sample-length))
+          (λ i. c .before .before .slice-known3 .given i .fits) (E .ensures .0),
+      cleared (own * (j .numbers .d + 1)) _ (omega (arith, E .kept .1 .0, f .job .lengths .work-length)) (λ i. c .slice-known4 .given i .fits)
           (E .ensures .1 ∙ ap (λ (m : ℕ). replicate (m / 4) 0) (sym (E .kept .1 .0)))
-          ∙ ap (λ (m : ℕ). replicate m 0) (E .kept .1 .0) ∙ sym (after-written (answer s) _ _ z),
+          ∙ ap (λ (m : ℕ). replicate m 0) (E .kept .1 .0) ∙ sym (after-written (Calls.lookup j) _ _ (accepted past)),
     )
 
 pub lookup-spec : {M : Type 1} → statement M
@@ -98,7 +92,6 @@ lookup-spec =
     same-length
     same-length-2
     returns
-    parameters-requires
     evaluate-requires
     same-length-3
     same-length-4

@@ -7,56 +7,49 @@ use lib.ListN.{length, getD}
 use borrow.Author.Needs.{needs}
 use borrow.Author.Tests.{eq-eqb, ne-eqb}
 use Rattle.torus.specs.Bytes.{words}
-use Rattle.gadget.proofs.Bounds.{count-le}
 use Rattle.answers.specs.Checks as Check
 use Rattle.answers.proofs.Laws.{first-passed, exact-met}
-use Rattle.trgsw.specs.Block.{blockSize}
-use Rattle.lookup.specs.Numbers.{LawfulNumbers}
-use Rattle.lookup.proofs.Passed.{numbers-held}
+use Rattle.lookup.specs.Numbers.{parameters}
+use Rattle.trgsw.specs.Parameters.{blockSize}
 use Rattle.jobfile.specs.Reader.{behind, tablePart, fileSize}
 use Rattle.jobfile.proofs.Sections.{count-at}
 use Rattle.jobfile.proofs.checks.check_sections.Statement.{statement}
 use Rattle.jobfile.proofs.checks.check_sections.Tie as tie
 
-lawful : (s : tie.Start) → let x = s .args .x in LawfulNumbers (x .n) (x .g) (x .l) (x .m) (x .s) (x .d)
-lawful s = numbers-held _ _ _ _ _ _ (s .pre)
-
 -- Section two has few enough words.
-small : (c : tie.After-block-words) → c .before .before .args .x .d * (1 + c .block-words .result) ≤ 1310730
+small : (c : tie.After-block-size) → c .before .before .args .x .d * (1 + c .block-size .result) ≤ 8192010
 small c =
-    let few : 1 + c .block-words .result ≤ 131073 = omega (arith, c .block-words .ensures .1) in
-    mul-le-mul (lawful (c .before .before) .depth) few
+    let few : 1 + c .block-size .result ≤ 819201 = omega (arith, c .block-size .ensures .1) in
+    mul-le-mul (c .before .before .pre .depth) few
 
 -- How many words it has, and how many bytes the whole file.
-selectors : (c : tie.After-block-words) → let x = c .before .before .args .x in
-    x .d * (1 + c .block-words .result) ≡ x .d * (1 + blockSize (x .n) 1 (x .l))
-selectors c = ap (λ b. c .before .before .args .x .d * (1 + b)) (c .block-words .ensures .0)
+selectors : (c : tie.After-block-size) → let x = c .before .before .args .x in
+    x .d * (1 + c .block-size .result) ≡ x .d * (1 + blockSize (parameters x))
+selectors c = ap (λ b. c .before .before .args .x .d * (1 + b)) (c .block-size .ensures .0)
 
 size : (c : tie.After-table-words) → let x = c .before .before .before .before .args .x in
-    4 * (8 + x .d * (1 + c .before .before .block-words .result) + c .table-words .result) ≡ 4 * fileSize (x .n) (x .l) (x .s) (x .d)
+    4 * (8 + x .d * (1 + c .before .before .block-size .result) + c .table-words .result) ≡ 4 * fileSize x
 size c = omega (arith, selectors (c .before .before), c .table-words .ensures .0)
 
 -- Past the test the length is exact.
 exact : (c : tie.Else1) → let a = c .before .before .before .before .before .args in
-    Check.exact (length (a .file .now)) (fileSize (a .x .n) (a .x .l) (a .x .s) (a .x .d)) ≡ 0
+    Check.exact (length (a .file .now)) (fileSize (a .x)) ≡ 0
 exact c = exact-met _ _ (c .if1 .left ∙ size (c .before))
 
 -- The count that is read, and the one that it should be.
 count : (c : tie.After-number-at) → let a = c .before .before .before .before .before .before .args in
-    getD (tablePart (blockSize (a .x .n) 1 (a .x .l)) (a .x .d) (behind (a .file .now))) 0 0 ≡ c .number-at .result
+    getD (tablePart (blockSize (parameters (a .x))) (a .x .d) (behind (a .file .now))) 0 0 ≡ c .number-at .result
 count c =
     let a = c .before .before .before .before .before .before .args in
-    count-at (blockSize (a .x .n) 1 (a .x .l)) (a .x .d) (words (a .file .now))
+    count-at (blockSize (parameters (a .x))) (a .x .d) (words (a .file .now))
     ∙ sym (c .number-at .ensures ∙ ap (λ k. getD (words (a .file .now)) (7 + k) 0) (selectors (c .before .before .before .before)))
 
 classes : (c : tie.After-number-at) → let x = c .before .before .before .before .before .before .args .x in
     c .before .before .table-words .result ≡ x .s * 2 ^ x .d
 classes c = c .before .before .table-words .ensures .0
 
-block-words-requires : tie.Need-block-words-requires
-block-words-requires c κs =
-    let ok = lawful (c .before) in
-    (ok .degree .most, count-le _ _ (ok .gadget))
+block-size-requires : tie.Need-block-size-requires
+block-size-requires c κs = c .before .pre
 
 add-selectors : tie.Need-add-selectors
 add-selectors c = search needs
@@ -65,9 +58,7 @@ mul-selectors : tie.Need-mul-selectors
 mul-selectors c = omega (arith, small (c .before))
 
 table-words-requires : tie.Need-table-words-requires
-table-words-requires c κs =
-    let ok = lawful (c .before .before .before) in
-    (omega (arith, ok .most, ok .degree .most), ok .depth)
+table-words-requires c κs = c .before .before .before .pre
 
 add-if1 : tie.Need-add-if1
 add-if1 c = omega (arith, small (c .before .before))
@@ -103,7 +94,7 @@ pub check-sections-spec : {M : Type 1} → statement M
 check-sections-spec =
     tie.close
     (tie.spec
-    block-words-requires
+    block-size-requires
     add-selectors
     mul-selectors
     table-words-requires

@@ -24,14 +24,14 @@ number-at-requires-6 c κs = search needs
 
 returns : tie.Need-returns
 unfolding readJob
-returns c = record {
-  n = c .before .before .before .before .before .number-at .ensures;
-  g = c .before .before .before .before .number-at2 .ensures;
-  l = c .before .before .before .number-at3 .ensures;
-  m = c .before .before .number-at4 .ensures;
-  s = c .before .number-at5 .ensures;
-  d = c .number-at6 .ensures;
-}
+returns c = rw (
+  c .before .before .before .before .before .number-at .ensures,
+  c .before .before .before .before .number-at2 .ensures,
+  c .before .before .before .number-at3 .ensures,
+  c .before .before .number-at4 .ensures,
+  c .before .number-at5 .ensures,
+  c .number-at6 .ensures,
+)
 
 pub read-numbers-spec : {M : Type 1} → statement M
 read-numbers-spec =

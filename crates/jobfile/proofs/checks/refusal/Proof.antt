@@ -1,9 +1,10 @@
 -- `jobfile::checks::refusal` meets its contract. Assumes nothing.
-use mathlib.Core.Path.{_≡_, sym, _∙_}
+use mathlib.Core.Path.{_≡_, ap, sym, _∙_}
 use borrow.Author.Needs.{needs}
 use Rattle.answers.proofs.Laws.{first-stopped, first-passed}
 use Rattle.lookup.specs.Numbers.{numbers}
-use Rattle.jobfile.specs.Reader.{readJob, beginning, fileRefusal}
+use Rattle.lookup.proofs.Passed.{numbers-held}
+use Rattle.jobfile.specs.Reader.{readJob, beginning, sections, fileRefusal}
 use Rattle.jobfile.proofs.Passed.{beginning-held}
 use Rattle.jobfile.proofs.checks.refusal.Statement.{statement}
 use Rattle.jobfile.proofs.checks.refusal.Tie as tie
@@ -13,11 +14,8 @@ passed : (c : tie.Else1) → beginning (c .before .before .before .args .file .n
 passed c = sym (c .before .beginning .ensures) ∙ c .if1 .left
 
 -- The numbers are those of the job.
-judged : (c : tie.After-check-numbers) → let j = readJob (c .before .before .before .before .before .args .file .now) in
-    c .check-numbers .result ≡ numbers (j .N) (j .g) (j .L) (j .M) (j .s) (j .d)
-judged c =
-    let h = c .before .read-numbers .ensures in
-    rw (c .check-numbers .ensures, h .n, h .g, h .l, h .m, h .s, h .d)
+judged : (c : tie.After-check-numbers) → c .check-numbers .result ≡ numbers (readJob (c .before .before .before .before .before .args .file .now) .numbers)
+judged c = c .check-numbers .ensures ∙ ap numbers (c .before .read-numbers .ensures)
 
 beginning-requires : tie.Need-beginning-requires
 beginning-requires c κs = search needs
@@ -38,15 +36,15 @@ returns-2 c =
     first-passed _ _ _ (passed (c .before .before .before)) (first-stopped _ _ _ (judged (c .before)) (c .if2 .taken))
 
 check-sections-requires : tie.Need-check-sections-requires
-check-sections-requires c κs = search needs
+check-sections-requires c κs = numbers-held _ (sym (c .before .check-numbers .ensures) ∙ c .if2 .left)
 
 returns-3 : tie.Need-returns-3
 unfolding fileRefusal
 returns-3 c =
-    let h = c .before .before .before .read-numbers .ensures in
+    let file = c .before .before .before .before .before .before .before .args .file .now in
     first-passed _ _ _ (passed (c .before .before .before .before))
     (first-passed _ _ _ (sym (judged (c .before .before)) ∙ c .before .if2 .left)
-    (rw (c .check-sections .ensures, h .n, h .l, h .s, h .d)))
+    (c .check-sections .ensures ∙ ap (λ x. sections x file) (c .before .before .before .read-numbers .ensures)))
 
 pub refusal-spec : {M : Type 1} → statement M
 refusal-spec =

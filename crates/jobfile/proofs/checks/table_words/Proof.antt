@@ -11,12 +11,13 @@ use Rattle.jobfile.proofs.checks.table_words.Tie as tie
 small : (c : tie.After-entries) → c .before .args .x .s * c .entries .result ≤ 1048576
 small c =
     let d = c .before .args .x .d in
-    let most : 2 ^ d ≤ 2 ^ 10 = pow-mono {i = d} {j = 10} (c .before .pre .1) in
+    let most : 2 ^ d ≤ 2 ^ 10 = pow-mono {i = d} {j = 10} (c .before .pre .depth) in
     let few : c .entries .result ≤ 1024 = omega (arith, c .entries .ensures) in
-    mul-le-mul (c .before .pre .0) few
+    let packed : c .before .args .x .s ≤ 1024 = omega (arith, c .before .pre .most, c .before .pre .degree .most) in
+    mul-le-mul packed few
 
 entries-requires : tie.Need-entries-requires
-entries-requires c κs = search needs
+entries-requires c κs = c .pre .depth
 
 mul-result : tie.Need-mul-result
 mul-result c = omega (arith, small (c .before))

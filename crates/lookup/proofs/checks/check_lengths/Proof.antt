@@ -1,6 +1,6 @@
 -- `lookup::checks::check_lengths` meets its contract. Assumes nothing.
 use native.Mathlib.Omega.{arith}
-use mathlib.Core.Path.{ap, ap₂, _∙_}
+use mathlib.Core.Path.{_≡_, ap, ap₂, _∙_}
 use Prim.Native.Nat.{_+_, _*_, _^_, _≤_}
 use native.Mathlib.Nat.{mul-le-mul}
 use lib.ListN.{length}
@@ -11,33 +11,28 @@ use Rattle.lookup.proofs.checks.check_lengths.Statement.{statement}
 use Rattle.lookup.proofs.checks.check_lengths.Tie as tie
 
 -- Where the function starts, seen from some of its calls.
-abbrev start : tie.After-exact → tie.Start
+abbrev start : tie.After-sample-size → tie.Start
 start c = c .before .before .before .before .before .before
 
 abbrev start-2 : tie.After-entries → tie.Start
-start-2 c = start (c .before .before .before)
+start-2 c = start (c .before .before .before .before .before)
 
-abbrev start-3 : tie.After-first3 → tie.Start
-start-3 c = start-2 (c .before .before .before .before)
+abbrev start-3 : tie.After-block-size → tie.Start
+start-3 c = start-2 (c .before .before .before .before .before .before)
 
-mul-exact : tie.Need-mul-exact
-mul-exact c = search needs
+sample-size-requires : tie.Need-sample-size-requires
+sample-size-requires c κs = search needs
 
 exact-requires : tie.Need-exact-requires
 exact-requires c κs = search needs
 
-mul-exact-2 : tie.Need-mul-exact-2
-mul-exact-2 c = search needs
-
 add-exact : tie.Need-add-exact
-add-exact c = search needs
+add-exact c = record { fits = omega (arith, start (c .before .before) .pre .depth) }
 
-mul-exact-3 : tie.Need-mul-exact-3
-mul-exact-3 c =
-    let s = start c in
-    let size : 2 * s .args .n ≤ 2048 = omega (arith, s .pre .0) in
-    let levels : s .args .d + 1 ≤ 11 = omega (arith, s .pre .3) in
-    omega (arith, mul-le-mul size levels)
+mul-exact : tie.Need-mul-exact
+mul-exact c =
+    let levels : start (c .before .before) .args .x .d + 1 ≤ 11 = omega (arith, start (c .before .before) .pre .depth) in
+    record { fits = omega (arith, mul-le-mul (c .before .before .sample-size .ensures .1) levels) }
 
 exact-requires-2 : tie.Need-exact-requires-2
 exact-requires-2 c κs = search needs
@@ -46,14 +41,15 @@ first-requires : tie.Need-first-requires
 first-requires c κs = search needs
 
 entries-requires : tie.Need-entries-requires
-entries-requires c κs = search needs
+entries-requires c κs = start (c .before .before .before .before) .pre .depth
 
-mul-exact-4 : tie.Need-mul-exact-4
-mul-exact-4 c =
-    let s = start-2 c in
-    let most : 2 ^ s .args .d ≤ 2 ^ 10 = pow-mono {i = s .args .d} {j = 10} (s .pre .3) in
-    let count : c .entries .result ≤ 1024 = omega (arith, c .entries .ensures) in
-    omega (arith, mul-le-mul (s .pre .2) count)
+mul-exact-2 : tie.Need-mul-exact-2
+mul-exact-2 c =
+    let s = start-2 (c .before) in
+    let most : 2 ^ s .args .x .d ≤ 2 ^ 10 = pow-mono {i = s .args .x .d} {j = 10} (s .pre .depth) in
+    let count : c .before .entries .result ≤ 1024 = omega (arith, c .before .entries .ensures) in
+    let packed : s .args .x .s ≤ 1024 = omega (arith, s .pre .most, s .pre .degree .most) in
+    record { fits = omega (arith, mul-le-mul packed count) }
 
 exact-requires-3 : tie.Need-exact-requires-3
 exact-requires-3 c κs = search needs
@@ -67,19 +63,11 @@ exact-requires-4 c κs = search needs
 first-requires-3 : tie.Need-first-requires-3
 first-requires-3 c κs = search needs
 
-mul-exact-5 : tie.Need-mul-exact-5
-mul-exact-5 c = search needs
+block-size-requires : tie.Need-block-size-requires
+block-size-requires c κs = search needs
 
-mul-exact-6 : tie.Need-mul-exact-6
-mul-exact-6 c =
-    let s = start-3 c in
-    omega (arith, mul-le-mul (s .pre .1) (s .pre .0))
-
-mul-exact-7 : tie.Need-mul-exact-7
-mul-exact-7 c =
-    let s = start-3 c in
-    let size : 4 * s .args .l * s .args .n ≤ 131072 = omega (arith, mul-le-mul (s .pre .1) (s .pre .0)) in
-    omega (arith, mul-le-mul (s .pre .3) size)
+mul-exact-3 : tie.Need-mul-exact-3
+mul-exact-3 c = record { fits = omega (arith, mul-le-mul (start-3 (c .before) .pre .depth) (c .before .block-size .ensures .1)) }
 
 exact-requires-5 : tie.Need-exact-requires-5
 exact-requires-5 c κs = search needs
@@ -89,38 +77,42 @@ first-requires-4 c κs = search needs
 
 returns : tie.Need-returns
 returns c =
-    let s = start-3 (c .before .before) .args in
-    let table = c .before .before .before .before in
+    let blocks = c .before .before .before in
+    let a = start-3 blocks .args in
+    let x = a .x in
+    let table = blocks .before .before .before in
+    let written = table .before .before .before .before in
+    let own = written .before .before .before .before .sample-size .ensures .0 in
     c .first4 .ensures
-    ∙ ap₂ Check.first (c .before .exact5 .ensures)
-    (c .before .before .first3 .ensures
-    ∙ ap₂ Check.first (c .before .before .before .exact4 .ensures)
+    ∙ ap₂ Check.first (c .before .exact5 .ensures ∙ ap (λ b. Check.exact (length (a .blocks .now)) (x .d * b)) (blocks .block-size .ensures .0))
+    (blocks .before .first3 .ensures
+    ∙ ap₂ Check.first (blocks .before .before .exact4 .ensures)
     (table .first2 .ensures
     ∙ ap₂ Check.first
-    (table .before .exact3 .ensures ∙ ap (λ e. Check.exact (length (s .classes .now)) (s .s * e)) (table .before .before .entries .ensures))
-    (table .before .before .before .first .ensures
-    ∙ ap₂ Check.first (table .before .before .before .before .before .exact .ensures) (table .before .before .before .before .exact2 .ensures))))
+    (table .before .exact3 .ensures ∙ ap (λ e. Check.exact (length (a .classes .now)) (x .s * e)) (table .before .before .before .entries .ensures))
+    (written .first .ensures
+    ∙ ap₂ Check.first
+    (written .before .before .before .exact .ensures ∙ ap (λ n. Check.exact (length (a .sample .now)) n) own)
+    (written .before .exact2 .ensures ∙ ap (λ n. Check.exact (length (a .work .now)) (n * (x .d + 1))) own))))
 
 pub check-lengths-spec : {M : Type 1} → statement M
 check-lengths-spec =
     tie.close
     (tie.spec
-    mul-exact
+    sample-size-requires
     exact-requires
-    mul-exact-2
     add-exact
-    mul-exact-3
+    mul-exact
     exact-requires-2
     first-requires
     entries-requires
-    mul-exact-4
+    mul-exact-2
     exact-requires-3
     first-requires-2
     exact-requires-4
     first-requires-3
-    mul-exact-5
-    mul-exact-6
-    mul-exact-7
+    block-size-requires
+    mul-exact-3
     exact-requires-5
     first-requires-4
     returns)

@@ -5,6 +5,7 @@ use Prim.Native.Nat.{ℕ, _+_, _-_, _*_, _^_, _≤_, _<_}
 use lib.ListN.{length}
 use borrow.Author.Needs.{needs}
 use Rattle.torus.specs.Bytes.{words}
+use Rattle.lookup.specs.Numbers.{parameters}
 use Rattle.lookup.specs.Lookup as Lookup
 use Rattle.lookup.proofs.Charges.{charges-none, charges-more, fewer, branch-bound, join-bound}
 use Rattle.lookup.proofs.Runs.{level-some, own-inside, blocks-inside, lower, branch-small, leaf, first-gates, second-gates, join-gates, gates-more, rest-length, tree-sample-none, tree-sample-more}
@@ -54,13 +55,13 @@ some t c = level-some _ (c .if1 .left)
 inside : (t : ℕ) (c : tree-lts.Else1 (R t) (tree-at t) tree.Post) → let a = begin t c .args in length (a .sample .now) ≤ length (a .work .now)
 inside t c =
     let s = begin t c in
-    own-inside (s .args .p) (s .args .d) (s .args .d - 1) (s .args .t) _ _ _ (s .args .classes .now) (omega (arith, some t c)) (s .pre .1 .1)
+    own-inside (s .args .x) (s .args .d) (s .args .d - 1) (s .args .t) _ _ _ (s .args .classes .now) (omega (arith, some t c)) (s .pre .1 .1)
 
 -- The numbers of the runs below it are small.
 small : (t : ℕ) (c : tree-lts.Else1 (R t) (tree-at t) tree.Post) → 2 * begin t c .args .t + 1 < 65536
 small t c =
     let s = begin t c in
-    branch-small (s .args .p) (s .args .d) (s .args .d - 1) (s .args .t) _ _ _ (s .args .classes .now) (omega (arith, some t c)) (s .pre .1 .1)
+    branch-small (s .args .x) (s .args .d) (s .args .d - 1) (s .args .t) _ _ _ (s .args .classes .now) (omega (arith, some t c)) (s .pre .1 .1)
 
 -- The work slice keeps its length while a sample is kept in it, which leaves room for the sample.
 whole : (t : ℕ) (c : tree-lts.After-keep (R t) (tree-at t) tree.Post)
@@ -74,7 +75,7 @@ tree-write-entry-requires : (t : ℕ) → tree-lts.Need-write-entry-requires (R 
 tree-write-entry-requires t c κs =
     let s = c .before .before .before .before .before .before .before in
     let a = s .args in
-    (s .pre .1 .0 .admissible, leaf (a .p) (a .d) (a .t) _ _ _ (a .classes .now) (c .before .if1 .taken) (s .pre .1 .1))
+    (s .pre .1 .0 .lawful, leaf (a .x) (a .d) (a .t) _ _ _ (a .classes .now) (c .before .if1 .taken) (s .pre .1 .1))
 
 tree-same-length : (t : ℕ) → tree-lts.Need-same-length (R t) (tree-at t) tree.Post
 tree-same-length t c = search needs
@@ -82,14 +83,14 @@ tree-same-length t c = search needs
 tree-returns : (t : ℕ) → tree-lts.Need-returns (R t) (tree-at t) tree.Post
 tree-returns t c =
     let a = c .before .before .before .before .before .before .before .before .before .before .args in
-    let p = a .p in
-    let entry = Lookup.entrySample (p .n) (p .k) (p .m) (p .s) (words (a .classes .now)) in
+    let x = a .x in
+    let entry = Lookup.entrySample x (words (a .classes .now)) in
     let z : a .d ≡ 0 = c .before .before .before .before .if1 .taken in (
-      c .before .before .write-entry .ensures ∙ sym (tree-sample-none (p .n) (p .k) (p .g) (p .l) (words (a .blocks .now)) entry (a .d) (a .t) z),
+      c .before .before .write-entry .ensures ∙ sym (tree-sample-none (parameters x) (words (a .blocks .now)) entry (a .d) (a .t) z),
       omega (
         arith,
-        ap (Lookup.charges (p .n) (p .k) (p .g) (p .l) (p .w) (words (a .amplitudes .now))) z,
-        charges-none (p .n) (p .k) (p .g) (p .l) (p .w) (words (a .amplitudes .now)),
+        ap (Lookup.charges (parameters x) (words (a .amplitudes .now))) z,
+        charges-none (parameters x) (words (a .amplitudes .now)),
       ),
       omega (arith, ap (λ d. 2 ^ d) z),
     )
@@ -117,13 +118,13 @@ tree-tree-requires t c κs =
     let E = c .before .before in
     let s = begin t E in
     let a = s .args in
-    let p = a .p in (
+    let x = a .x in (
       omega (arith, s .pre .0, some t E),
       (
-        fewer p (a .d) _ (a .amplitudes .now) (omega arith) (s .pre .1 .0),
-        lower p (a .d) _ (a .t) _ _ _ (a .classes .now) (omega (arith, some t E)) (s .pre .1 .1) _ _ (omega arith)
+        fewer x (a .d) _ (a .amplitudes .now) (omega arith) (s .pre .1 .0),
+        lower x (a .d) _ (a .t) _ _ _ (a .classes .now) (omega (arith, some t E)) (s .pre .1 .1) _ _ (omega arith)
             (rest-length (length (a .sample .now)) (a .work .now) (inside t E)),
-        branch-bound (p .n) (p .k) (p .g) (p .l) (p .w) (words (a .amplitudes .now)) (a .ledger .bound) (a .d) _ _ refl (omega (arith, some t E)) (s .pre .1 .2),
+        branch-bound (parameters x) (words (a .amplitudes .now)) (a .ledger .bound) (a .d) _ _ refl (omega (arith, some t E)) (s .pre .1 .2),
         first-gates (a .d) _ (a .ledger .gates) (omega (arith, some t E)) (s .pre .1 .3),
       ),
     )
@@ -155,15 +156,15 @@ tree-tree-requires-2 t c κs =
     let E = past t T in
     let s = begin t E in
     let a = s .args in
-    let p = a .p in
+    let x = a .x in
     let B = c .beside in (
       omega (arith, s .pre .0, some t E),
       (
-        fewer p (a .d) _ (a .amplitudes .now) (omega arith) (s .pre .1 .0),
+        fewer x (a .d) _ (a .amplitudes .now) (omega arith) (s .pre .1 .0),
         rw (T .tree .kept .0)
-            (lower p (a .d) _ (a .t) _ _ _ (a .classes .now) (omega (arith, some t E)) (s .pre .1 .1) _ _ (omega arith)
+            (lower x (a .d) _ (a .t) _ _ _ (a .classes .now) (omega (arith, some t E)) (s .pre .1 .1) _ _ (omega arith)
             (rest-length (length (a .sample .now)) (K .keep .last .0) (whole t K .1) ∙ whole t K .0)),
-        branch-bound (p .n) (p .k) (p .g) (p .l) (p .w) (words (a .amplitudes .now)) (a .ledger .bound) (a .d) _ (B .result .bound) (omega (arith, B .ensures .0))
+        branch-bound (parameters x) (words (a .amplitudes .now)) (a .ledger .bound) (a .d) _ (B .result .bound) (omega (arith, B .ensures .0))
             (omega (arith, some t E)) (s .pre .1 .2),
         rw (B .ensures .1) (second-gates (a .d) _ (a .ledger .gates) (omega (arith, some t E)) (s .pre .1 .3) (T .tree .result .gates) (T .tree .ensures .2)),
       ),
@@ -177,14 +178,14 @@ tree-join-requires t c κs =
     let E = past t T in
     let s = begin t E in
     let a = s .args in
-    let p = a .p in
+    let x = a .x in
     let B = U .before .beside in
     let size : length (U .tree2 .last .0) ≡ length (a .sample .now) = U .tree2 .kept .0 ∙ T .tree .kept .0 in (
-      fewer p (a .d) _ (a .amplitudes .now) (omega (arith, some t E)) (s .pre .1 .0),
+      fewer x (a .d) _ (a .amplitudes .now) (omega (arith, some t E)) (s .pre .1 .0),
       size ∙ s .pre .1 .1 .sample-length,
       omega (arith, size, whole t K .0, whole t K .1, c .before .before .before .work3 .given),
-      blocks-inside p (a .d) _ (a .t) _ _ _ (a .classes .now) (omega (arith, some t E)) (s .pre .1 .1),
-      join-bound (p .n) (p .k) (p .g) (p .l) (p .w) (words (a .amplitudes .now)) (a .ledger .bound) (a .d) _ (B .result .bound) _
+      blocks-inside x (a .d) _ (a .t) _ _ _ (a .classes .now) (omega (arith, some t E)) (s .pre .1 .1),
+      join-bound (parameters x) (words (a .amplitudes .now)) (a .ledger .bound) (a .d) _ (B .result .bound) _
           (U .tree2 .ensures .1) (B .ensures .0) (omega (arith, some t E)) (s .pre .1 .2),
       join-gates (a .d) _ (a .ledger .gates) (B .result .gates) _ (ap (λ h. h + 1) (B .ensures .1) ∙ T .tree .ensures .2) (U .tree2 .ensures .2)
           (omega (arith, some t E)) (s .pre .1 .3),
@@ -207,13 +208,13 @@ tree-returns-2 t c =
     let E = past t T in
     let s = begin t E in
     let a = s .args in
-    let p = a .p in
+    let x = a .x in
     let B = U .before .beside in
-    let entry = Lookup.entrySample (p .n) (p .k) (p .m) (p .s) (words (a .classes .now)) in
+    let entry = Lookup.entrySample x (words (a .classes .now)) in
     let own = length (a .sample .now) in
     let level : a .d ≡ a .d - 1 + 1 = omega (arith, some t E) in (
       J .ensures .0
-          ∙ tree-sample-more (p .n) (p .k) (p .g) (p .l) (words (a .blocks .now)) entry (a .d) (a .d - 1) (a .t) own (length (K .keep .last .0) - own)
+          ∙ tree-sample-more (parameters x) (words (a .blocks .now)) entry (a .d) (a .d - 1) (a .t) own (length (K .keep .last .0) - own)
           (U .tree2 .last .0) (T .tree .last .0) (K .keep .last .0) (U .tree2 .last .1 .0) _ level (s .pre .1 .1 .sample-length) (T .tree .kept .0)
           (whole t K .1) (K .keep .ensures) (T .tree .ensures .0) (U .tree2 .ensures .0),
       omega (
@@ -221,7 +222,7 @@ tree-returns-2 t c =
         J .ensures .1,
         U .tree2 .ensures .1,
         B .ensures .0,
-        charges-more (p .n) (p .k) (p .g) (p .l) (p .w) (words (a .amplitudes .now)) (a .d) (a .d - 1) level,
+        charges-more (parameters x) (words (a .amplitudes .now)) (a .d) (a .d - 1) level,
       ),
       gates-more (a .d) (a .d - 1) (a .ledger .gates) (B .result .gates) (U .tree2 .result .gates) _ level
           (ap (λ h. h + 1) (B .ensures .1) ∙ T .tree .ensures .2) (U .tree2 .ensures .2) (J .ensures .2),

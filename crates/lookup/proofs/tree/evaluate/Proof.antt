@@ -15,7 +15,7 @@ tree-requires c κs =
     let a = s .args in (
       s .pre .0,
       s .pre .1,
-      omega (arith, charges-fit (a .p) (a .d) (a .amplitudes .now) (s .pre .0) (a .d) (le-refl (a .d))),
+      omega (arith, charges-fit (a .x) (a .x .d) (a .amplitudes .now) (s .pre .0) (a .x .d) (le-refl (a .x .d))),
       omega (arith, s .pre .1 .entries),
     )
 
