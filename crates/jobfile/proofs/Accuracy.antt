@@ -3,20 +3,14 @@
 -- Assumes nothing.
 use mathlib.Core.Path.{_≡_, ap, _∙_}
 use mathlib.Core.List.{List}
-use Prim.Native.Nat.{ℕ, _*_, _≤_, _<_}
-use lib.ListN.{length, getD}
-use Rattle.torus.specs.Sum.{chunk}
-use Rattle.torus.specs.Word.{distance}
-use Rattle.torus.specs.Bytes.{AreBytes, words, bytes}
+use Prim.Native.Nat.{ℕ, _≤_}
+use lib.ListN.{length}
+use Rattle.torus.specs.Bytes.{AreBytes, bytes}
 use Rattle.answers.specs.Answers.{number, bound, _orElse_}
 use Rattle.answers.specs.declared.Answer.the-variants.{Refused}
-use Rattle.trlwe.specs.Sample.{Key, phase}
-use Rattle.trlwe.specs.Calls.{decryptClasses, decryptClassesClasses}
-use Rattle.lookup.specs.Tree.{entryNumber}
-use Rattle.lookup.specs.Numbers.{LawfulNumbers, masks}
-use Rattle.lookup.specs.Lookup.{entryClasses, entryMessage}
+use Rattle.lookup.specs.Numbers.{LawfulNumbers}
 use Rattle.lookup.specs.Job.{Job}
-use Rattle.lookup.specs.Calls.{lookup, lookupSample, IsAccepted}
+use Rattle.lookup.specs.Calls.{lookup, IsAccepted}
 use Rattle.lookup.specs.Rule.{Premises, Accurate, Encrypted}
 use Rattle.lookup.proofs.Accuracy.{accuracy}
 use Rattle.lookup.proofs.EndToEnd.{encrypted-lookup}

@@ -3,13 +3,11 @@
 use mathlib.Core.Path.{_≡_, sym, ap, _∙_}
 use mathlib.Core.List.{List, [], _++_}
 use Prim.Native.Nat.{ℕ, _+_, _*_}
-use native.Mathlib.Omega.{arith}
 use lib.ListN.{length, length-replicate}
 use lib.Seq.{take-at}
 use Rattle.answers.specs.Answers.{number}
 use Rattle.answers.specs.declared.Answer.{Answer}
 use Rattle.answers.proofs.Laws.{after-written, after-refused}
-use Rattle.lookup.specs.declared.Numbers.{Numbers}
 use Rattle.lookup.specs.Numbers.{parameters}
 use Rattle.trgsw.specs.Parameters.{sampleSize}
 use Rattle.lookup.specs.Job.{Job, lending}

@@ -6,7 +6,7 @@ pub mod text;
 use answers::Answer;
 use lookup::Numbers;
 ghost use mathlib.Core.Path.{_≡_};
-ghost use Prim.Native.Nat.{_*_, _≤_};
+ghost use Prim.Native.Nat.{_*_};
 ghost use lib.ListN.{length};
 ghost use Rattle.lookup.specs.Numbers.{LawfulNumbers, parameters};
 ghost use Rattle.trgsw.specs.Parameters.{blockSize};
@@ -57,7 +57,7 @@ fn evaluate(x: Numbers, blocks: &[u8], amplitudes: &[u8], classes: &[u8]) -> Out
 {
     let mut sample = sample_room();
     let mut work = work_room();
-    let size = 8 * x.N as usize;
+    let size = 4 * lookup::sample_size(x) as usize;
     let room = size * (x.d as usize + 1);
     let answer = lookup::lookup(
         x,

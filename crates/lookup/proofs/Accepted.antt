@@ -1,9 +1,8 @@
 -- What holds of the arguments of an accepted lookup, and that a lookup with such arguments is accepted; and when it is refused for noise.
 -- Assumes nothing.
 use mathlib.Core.Path.{_≡_, ap, sym, _∙_}
-use Prim.Native.Nat.{ℕ, _-_, _*_, _/_, _^_, _≤_, _<_}
+use Prim.Native.Nat.{ℕ, _-_, _/_, _^_, _≤_, _<_}
 use borrow.Author.Tests.{le-ltb}
-use Rattle.torus.specs.Bytes.{words}
 use Rattle.answers.specs.Answers.{number, noise}
 use Rattle.answers.specs.declared.Answer.the-variants.{Accepted, Noisy}
 use Rattle.answers.proofs.Laws.{before, past-other, went-on, noise-held, noise-met, noise-refused}

@@ -2,7 +2,7 @@
 -- premises is answered accurately, and so is its sample (`Premises` and `Accurate`, specs/Rule.antt). It is one statement over all lawful
 -- N, g, L, M, s and d. And what an accepted lookup reports.
 -- Assumes nothing.
-use mathlib.Core.Path.{_≡_, refl, ap, _∙_}
+use mathlib.Core.Path.{_≡_, ap, _∙_}
 use mathlib.Core.List.{List}
 use Prim.Native.Nat.{ℕ, _+_, _-_, _*_, _^_, _≤_, _<_}
 use native.Mathlib.Nat.{le-of-lt}

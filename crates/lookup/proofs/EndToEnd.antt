@@ -4,17 +4,15 @@
 -- Assumes nothing.
 use mathlib.Core.Path.{_≡_, ap, subst, _∙_}
 use mathlib.Core.List.{List}
-use Prim.Native.Nat.{ℕ, _*_, _≤_, _<_}
+use Prim.Native.Nat.{ℕ, _*_}
 use native.Mathlib.Nat.{le-trans}
 use native.Mathlib.Omega.{arith}
-use lib.ListN.{length, getD}
+use lib.ListN.{getD}
 use Rattle.torus.specs.Sum.{chunk}
-use Rattle.torus.specs.Bytes.{AreBytes, words, bytes}
+use Rattle.torus.specs.Bytes.{words}
 use Rattle.torus.proofs.Joined.{words-chunk}
-use Rattle.answers.specs.Answers.{number, bound}
-use Rattle.trlwe.specs.Sample.{Key}
+use Rattle.answers.specs.Answers.{bound}
 use Rattle.trgsw.specs.Block as Block
-use Rattle.trgsw.specs.Calls.{encryptSelector, encryptSelectorBlock}
 use Rattle.trgsw.proofs.Accepted.{selector-accepted}
 use Rattle.trgsw.proofs.CallNoise.{selector-holds}
 use Rattle.trgsw.specs.declared.Parameters.{Parameters}

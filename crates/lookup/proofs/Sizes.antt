@@ -1,6 +1,6 @@
 -- How large the parameter set of a lookup can be, and the sizes that it gives. The code is made for up to four masks and keys of up to 4096 ones.
 -- Assumes nothing.
-use Prim.Native.Nat.{ℕ, suc, _*_, _≤_}
+use Prim.Native.Nat.{suc, _*_, _≤_}
 use native.Mathlib.Nat.{mul-le-mul}
 use native.Mathlib.Omega.{arith}
 use lib.Dec.{lit≤}

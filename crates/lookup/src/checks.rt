@@ -1,7 +1,6 @@
 // What refuses a lookup before its noise is judged. Each function gives the number of the first refusal that applies, or 0.
 use crate::Numbers;
 ghost use mathlib.Core.Path.{_≡_};
-ghost use lib.ListN.{length};
 ghost use Rattle.torus.specs.Bytes.{words};
 ghost use Rattle.answers.specs.Checks as Check;
 ghost use Rattle.lookup.specs.Numbers.{LawfulNumbers, numbers};

@@ -5,6 +5,20 @@ ghost use Rattle.answers.specs.Answers.{number, bound, gates};
 ghost use Rattle.lookup.specs.Job.{Job};
 ghost use Rattle.lookup.specs.Calls as Lookups;
 
+// The numbers that a caller passes, as the lookup takes them.
+fn numbers(n: u64, g: u64, l: u64, m: u64, s: u64, d: u64) -> Numbers
+    ensures { λ r. ⌜ r ≡ record { N = n; g = g; L = l; M = m; s = s; d = d } ⌝ }
+{
+    Numbers {
+        N: n,
+        g,
+        L: l,
+        M: m,
+        s,
+        d,
+    }
+}
+
 #[no_mangle]
 pub extern "C" fn cikenuma_lookup(
     n: u64,
@@ -30,14 +44,7 @@ pub extern "C" fn cikenuma_lookup(
         (r ≡ number (Lookups.lookup j)) × (now (sample .exit) ≡ Lookups.lookupSample j) × (now (work .exit) ≡ Lookups.lookupWork j)) ⌝ }
 {
     lookup::lookup(
-        Numbers {
-            N: n,
-            g,
-            L: l,
-            M: m,
-            s,
-            d,
-        },
+        numbers(n, g, l, m, s, d),
         blocks,
         amplitudes,
         classes,
@@ -70,14 +77,7 @@ pub extern "C" fn cikenuma_lookup_bound(
     })) ⌝ }
 {
     lookup::lookup_answer(
-        Numbers {
-            N: n,
-            g,
-            L: l,
-            M: m,
-            s,
-            d,
-        },
+        numbers(n, g, l, m, s, d),
         blocks,
         amplitudes,
         classes,
@@ -110,14 +110,7 @@ pub extern "C" fn cikenuma_lookup_gates(
     })) ⌝ }
 {
     lookup::lookup_answer(
-        Numbers {
-            N: n,
-            g,
-            L: l,
-            M: m,
-            s,
-            d,
-        },
+        numbers(n, g, l, m, s, d),
         blocks,
         amplitudes,
         classes,

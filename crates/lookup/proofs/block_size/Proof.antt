@@ -1,6 +1,6 @@
 -- `lookup::block_size` meets its contract. Assumes nothing.
 use native.Mathlib.Omega.{arith}
-use mathlib.Core.Path.{_≡_, ap, ap₂, _∙_}
+use mathlib.Core.Path.{_≡_, ap, ap₂}
 use Prim.Native.Nat.{suc, _+_, _*_}
 use Rattle.lookup.specs.Numbers.{masks, parameters}
 use Rattle.trgsw.specs.Parameters.{blockSize}

@@ -1,7 +1,7 @@
 -- `lookup::lookup` meets its contract. Assumes nothing.
 use native.Mathlib.Omega.{arith}
 use mathlib.Core.Path.{_≡_, sym, ap, ap₂, _∙_}
-use Prim.Native.Nat.{ℕ, _+_, _-_, _*_, _/_}
+use Prim.Native.Nat.{ℕ, _+_, _*_, _/_}
 use lib.ListN.{replicate}
 use borrow.Author.Needs.{needs}
 use Rattle.answers.specs.Answers.{number}

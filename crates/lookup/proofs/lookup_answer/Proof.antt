@@ -3,7 +3,6 @@ use native.Mathlib.Omega.{arith}
 use mathlib.Core.Path.{_≡_, ap₂, sym, _∙_}
 use Prim.Native.Nat.{_-_}
 use lib.Pow.{pow-pos}
-use Rattle.torus.specs.Bytes.{words}
 use Rattle.answers.specs.Answers.{noise}
 use Rattle.answers.proofs.Laws.{stopped, went-on}
 use Rattle.lookup.specs.Numbers.{LawfulNumbers, numbers}

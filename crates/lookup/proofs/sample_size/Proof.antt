@@ -1,6 +1,6 @@
 -- `lookup::sample_size` meets its contract. Assumes nothing.
 use native.Mathlib.Omega.{arith}
-use mathlib.Core.Path.{_≡_, ap, _∙_}
+use mathlib.Core.Path.{_≡_, ap}
 use Prim.Native.Nat.{_+_, _*_}
 use Rattle.lookup.specs.Numbers.{masks}
 use Rattle.trgsw.specs.Parameters.{sampleSize}

@@ -4,7 +4,6 @@ use native.Mathlib.Nat.{mul-le-mul}
 use mathlib.Core.Path.{ap}
 use Prim.Native.Nat.{_*_, _^_, _≤_}
 use lib.Pow.{pow-mono}
-use borrow.Author.Needs.{needs}
 use Rattle.jobfile.proofs.checks.table_words.Statement.{statement}
 use Rattle.jobfile.proofs.checks.table_words.Tie as tie
 

@@ -1,6 +1,6 @@
 -- `lookup::tree::charge_of` meets its contract. Assumes nothing.
 use native.Mathlib.Omega.{arith}
-use mathlib.Core.Path.{ap, ap₂, _∙_}
+use mathlib.Core.Path.{ap₂, _∙_}
 use Rattle.trgsw.specs.Parameters.{charge}
 use Rattle.lookup.proofs.Charges.{chargeable}
 use borrow.Author.Needs.{needs}

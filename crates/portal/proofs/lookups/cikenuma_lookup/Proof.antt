@@ -5,6 +5,9 @@ use borrow.Author.Needs.{needs}
 use Rattle.portal.proofs.lookups.cikenuma_lookup.Statement.{statement}
 use Rattle.portal.proofs.lookups.cikenuma_lookup.Tie as tie
 
+numbers-requires : tie.Need-numbers-requires
+numbers-requires c κs = search needs
+
 lookup-requires : tie.Need-lookup-requires
 lookup-requires c κs = search needs
 
@@ -20,8 +23,8 @@ same-length-2 c = search needs
 returns : tie.Need-returns
 returns c =
     let E = c .before .before .before .before .before .lookup .ensures in
-    (c .number .ensures ∙ ap number (E .0), E .1, E .2)
+    rw (← c .before .before .before .before .before .before .before .before .numbers .ensures) (c .number .ensures ∙ ap number (E .0), E .1, E .2)
 
 pub cikenuma-lookup-spec : {M : Type 1} → statement M
 cikenuma-lookup-spec =
-    tie.close (tie.spec lookup-requires number-requires same-length same-length-2 returns)
+    tie.close (tie.spec numbers-requires lookup-requires number-requires same-length same-length-2 returns)

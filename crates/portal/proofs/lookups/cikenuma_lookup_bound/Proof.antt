@@ -5,6 +5,9 @@ use borrow.Author.Needs.{needs}
 use Rattle.portal.proofs.lookups.cikenuma_lookup_bound.Statement.{statement}
 use Rattle.portal.proofs.lookups.cikenuma_lookup_bound.Tie as tie
 
+numbers-requires : tie.Need-numbers-requires
+numbers-requires c κs = search needs
+
 lookup-answer-requires : tie.Need-lookup-answer-requires
 lookup-answer-requires c κs = search needs
 
@@ -12,7 +15,7 @@ bound-requires : tie.Need-bound-requires
 bound-requires c κs = search needs
 
 returns : tie.Need-returns
-returns c = c .bound .ensures ∙ ap bound (c .before .lookup-answer .ensures)
+returns c = rw (← c .before .before .numbers .ensures) (c .bound .ensures ∙ ap bound (c .before .lookup-answer .ensures))
 
 pub cikenuma-lookup-bound-spec : {M : Type 1} → statement M
-cikenuma-lookup-bound-spec = tie.close (tie.spec lookup-answer-requires bound-requires returns)
+cikenuma-lookup-bound-spec = tie.close (tie.spec numbers-requires lookup-answer-requires bound-requires returns)

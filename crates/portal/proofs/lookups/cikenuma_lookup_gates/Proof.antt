@@ -5,6 +5,9 @@ use borrow.Author.Needs.{needs}
 use Rattle.portal.proofs.lookups.cikenuma_lookup_gates.Statement.{statement}
 use Rattle.portal.proofs.lookups.cikenuma_lookup_gates.Tie as tie
 
+numbers-requires : tie.Need-numbers-requires
+numbers-requires c κs = search needs
+
 lookup-answer-requires : tie.Need-lookup-answer-requires
 lookup-answer-requires c κs = search needs
 
@@ -12,7 +15,7 @@ gates-requires : tie.Need-gates-requires
 gates-requires c κs = search needs
 
 returns : tie.Need-returns
-returns c = c .gates .ensures ∙ ap gates (c .before .lookup-answer .ensures)
+returns c = rw (← c .before .before .numbers .ensures) (c .gates .ensures ∙ ap gates (c .before .lookup-answer .ensures))
 
 pub cikenuma-lookup-gates-spec : {M : Type 1} → statement M
-cikenuma-lookup-gates-spec = tie.close (tie.spec lookup-answer-requires gates-requires returns)
+cikenuma-lookup-gates-spec = tie.close (tie.spec numbers-requires lookup-answer-requires gates-requires returns)
