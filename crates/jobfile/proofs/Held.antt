@@ -13,6 +13,7 @@ use Rattle.answers.proofs.Laws.{went-on}
 use Rattle.lookup.specs.declared.Numbers.{Numbers}
 use Rattle.lookup.specs.Numbers.{LawfulNumbers, parameters}
 use Rattle.trgsw.specs.Parameters.{blockSize}
+use Rattle.lookup.specs.Job.{Job}
 use Rattle.lookup.specs.Calls.{lookup, lookupSample}
 use Rattle.jobfile.specs.Reader.{behind, readBlocks, readAmplitudes, readClasses, readJob, fileRefusal, jobAnswer, jobSample, Tells}
 use Rattle.jobfile.specs.File.{fileJob}
@@ -86,16 +87,14 @@ sample-lookup : (file : List ℕ) → fileRefusal file ≡ 0 → jobSample file 
 unfolding jobSample
 sample-lookup file e = ap (λ a. after a (lookupSample (readJob file)) []) (answer-lookup file e)
 
--- The job with the parts of the file's job is that job.
-same-job : (file : List ℕ) (x : Numbers) (blocks amplitudes classes : List ℕ) → x ≡ readJob file .numbers
-    → blocks ≡ readJob file .blocks → amplitudes ≡ readJob file .amplitudes → classes ≡ readJob file .classes → fileJob x blocks amplitudes classes ≡ readJob file
+-- The job that is taken apart and lent by its parts is the file's.
+pub same-job : (file : List ℕ) (x : Numbers) (blocks amplitudes classes : List ℕ) → x ≡ readJob file .numbers
+    → blocks ≡ readJob file .blocks → amplitudes ≡ readJob file .amplitudes → classes ≡ readJob file .classes
+    → fileJob x blocks amplitudes classes ≡ readJob file
 unfolding readJob
 same-job file x blocks amplitudes classes h eb ea ec = rw (h, eb, ea, ec)
 
 -- So what its lookup tells is what the file is answered.
-pub told : (file : List ℕ) (x : Numbers) (r : Outcome) (blocks amplitudes classes : List ℕ) → fileRefusal file ≡ 0 → x ≡ readJob file .numbers
-    → blocks ≡ readJob file .blocks → amplitudes ≡ readJob file .amplitudes → classes ≡ readJob file .classes
-    → Tells r (lookup (fileJob x blocks amplitudes classes)) (sample (fileJob x blocks amplitudes classes))
+pub told : (file : List ℕ) (j : Job) (r : Outcome) → fileRefusal file ≡ 0 → j ≡ readJob file → Tells r (lookup j) (sample j)
     → Tells r (jobAnswer file) (jobSample file)
-told file x r blocks amplitudes classes e h eb ea ec t =
-    rw (answer-lookup file e, sample-lookup file e, ← same-job file x blocks amplitudes classes h eb ea ec) t
+told file j r e same t = rw (answer-lookup file e, sample-lookup file e, ← same) t

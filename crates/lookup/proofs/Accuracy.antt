@@ -14,7 +14,6 @@ use Rattle.torus.specs.Bytes.{AreBytes, words, bytes}
 use Rattle.torus.proofs.Joined.{chunk-inside}
 use Rattle.torus.proofs.Magnitudes.{near-distance}
 use Rattle.torus.proofs.Parts.{length-words, length-bytes, words-bytes}
-use Rattle.ring.specs.Polynomial.{coefficients}
 use Rattle.ring.proofs.Close.{Close}
 use Rattle.answers.specs.Answers.{number, bound, gates}
 use Rattle.answers.proofs.Laws.{after-written}
@@ -32,7 +31,7 @@ use Rattle.lookup.specs.Calls.{noiseBound, resultSample, lookup, lookupS
 use Rattle.lookup.specs.Rule.{Premises, named, Accurate}
 use Rattle.lookup.proofs.Accepted.{Findable, lookup-accepted, lookup-accepts}
 use Rattle.lookup.proofs.Trees.{tree-none, entry-number-lt}
-use Rattle.lookup.proofs.Noise.{tree-sample-below, length-tree-sample}
+use Rattle.lookup.proofs.Noise.{Selects, tree-sample-below, length-tree-sample}
 use Rattle.lookup.proofs.PublicEntries.{entry-word, entry-below, entry-bytes, public-near, public-classes}
 
 module _ (j : Job) (accepted : IsAccepted j) where
@@ -70,15 +69,19 @@ module _ (j : Job) (accepted : IsAccepted j) where
 
 -- ---- what it holds
 
--- A key has at most N ones.
-light : (j : Job) (bits : ℕ → ℕ) (key out : List ℕ) → Premises j bits key out
-    → sum (masks (j .numbers) * j .numbers .N) (coefficients (words key)) ≤ weight (j .numbers)
-unfolding masks weight
-light j bits key out given = weight-one (j .numbers .N) key (given .key-fits)
-
 module _ (j : Job) (accepted : IsAccepted j) (bits : ℕ → ℕ) (key out : List ℕ) (given : Premises j bits key out) where
   fit : Findable j
   fit = lookup-accepted j accepted
+
+  -- Its selectors name an entry. A key has at most N ones.
+  selects : Selects (parameters (j .numbers)) (j .numbers .d) bits (words key) (words (j .blocks)) (words (j .amplitudes))
+  unfolding masks weight
+  selects = record {
+    gadget = fit .job .numbers .gadget;
+    light = weight-one (j .numbers .N) key (given .key-fits);
+    bit = given .bit;
+    holds = given .holds;
+  }
 
   -- Its phase is within the noise bound of the encoding of the entry that the bits name.
   lookup-near : let x = j .numbers in
@@ -86,7 +89,7 @@ module _ (j : Job) (accepted : IsAccepted j) (bits : ℕ → ℕ) (key out : Lis
   lookup-near =
       rw (lookup-words j accepted)
       (public-near (j .numbers) (words (j .classes)) (fit .job .numbers) (fit .job .contents .below) bits (words key) (words (j .blocks))
-      (words (j .amplitudes)) (light j bits key out given) (given .bit) (given .holds))
+      (words (j .amplitudes)) selects)
 
   -- As a distance of words, that is at most the reported bound.
   lookup-within : let x = j .numbers in (i : ℕ) → i < x .N
@@ -103,8 +106,7 @@ module _ (j : Job) (accepted : IsAccepted j) (bits : ℕ → ℕ) (key out : Lis
   lookup-holds =
       rw (lookup-words j accepted)
       (public-classes (j .numbers) (words (j .classes)) (fit .job .numbers) (fit .job .contents .below) bits (words key) (words (j .blocks))
-      (words (j .amplitudes)) (light j bits key out given) (given .bit) (given .holds)
-      (omega (arith, length-words (j .classes), fit .job .lengths .classes-length)) (fit .quiet))
+      (words (j .amplitudes)) selects (omega (arith, length-words (j .classes), fit .job .lengths .classes-length)) (fit .quiet))
 
   -- The accuracy rule.
   pub accuracy : Accurate j bits key out (lookup j) (lookupSample j)

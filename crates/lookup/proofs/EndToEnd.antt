@@ -12,10 +12,10 @@ use Rattle.torus.specs.Sum.{chunk}
 use Rattle.torus.specs.Bytes.{words}
 use Rattle.torus.proofs.Joined.{words-chunk}
 use Rattle.answers.specs.Answers.{bound}
-use Rattle.trgsw.specs.Block as Block
 use Rattle.trgsw.proofs.Accepted.{selector-accepted}
 use Rattle.trgsw.proofs.CallNoise.{selector-holds}
 use Rattle.trgsw.specs.declared.Parameters.{Parameters}
+use Rattle.lookup.specs.declared.Numbers.{Numbers}
 use Rattle.lookup.specs.Numbers.{masks, parameters}
 use Rattle.trgsw.specs.Parameters.{blockSize, Holds}
 use Rattle.lookup.specs.Lookup.{selector}
@@ -29,10 +29,12 @@ selector-lent : (p : Parameters) (i : ℕ) (blocks : List ℕ) → words (chunk 
 selector-lent p i blocks = words-chunk (blockSize p) i blocks
 
 -- A block that encryption left holds its bit within its amplitude.
-made-holds : (N g L m : ℕ) (key masks errors room block : List ℕ) (amplitude : ℕ) → Made N g L m key masks errors room block amplitude
-    → Block.Holds N 1 g L m amplitude (words key) (words block)
-made-holds N g L m key masks errors room block amplitude made =
-    rw (made .left) (λ r i lr li. le-trans (selector-holds N g L m key masks errors room (made .are-bytes) (made .accepted) r i lr li) (made .declared))
+made-holds : (x : Numbers) (m : ℕ) (key masks errors room block : List ℕ) (amplitude : ℕ) → Made x m key masks errors room block amplitude
+    → Holds (parameters x) m amplitude (words key) (words block)
+unfolding masks
+made-holds x m key masks errors room block amplitude made =
+    let holds = selector-holds (x .N) (x .g) (x .L) m key masks errors room (made .are-bytes) (made .accepted) in
+    rw (made .left) (λ r i lr li. le-trans (holds r i lr li) (made .declared))
 
 -- An accepted job whose blocks come from encryption is answered accurately.
 pub encrypted-lookup : (j : Job) (bits : ℕ → ℕ) (masks errors room : ℕ → List ℕ) (key out : List ℕ) → IsAccepted j
@@ -47,6 +49,6 @@ encrypted-lookup j bits masks errors room key out accepted given =
       bit = λ i l. selector-accepted (x .N) (x .g) (x .L) (bits i) key _ _ _ (given .made i l .accepted) .bit;
       holds = λ i l. subst (λ block. Holds p (bits i) (getD (words (j .amplitudes)) i 0) (words key) block)
           (ap (λ n. words (chunk n i (j .blocks))) bytes-of ∙ selector-lent p i (j .blocks))
-          (made-holds (x .N) (x .g) (x .L) (bits i) key _ _ _ _ _ (given .made i l));
+          (made-holds x (bits i) key _ _ _ _ _ (given .made i l));
       out-length = given .out-length;
     })

@@ -38,28 +38,27 @@ length-tree-sample p blocks entry d t size =
 
 -- ---- its noise
 
--- Its phase is within the sum of the charges of that of the entry that the bits name.
-pub tree-sample-near : (p : Parameters) (d t : ℕ) (bits : ℕ → ℕ) (K blocks amplitudes : List ℕ) (entry : (h : ℕ) → List ℕ)
-    → Lawful (p .g) (p .L) → sum (p .k * p .N) (coefficients K) ≤ p .W
-    → ((i : ℕ) → i < d → bits i ≤ 1)
-    → ((i : ℕ) → i < d → Holds p (bits i) (getD amplitudes i 0) K (selector p i blocks))
-    → ((h u : ℕ) → getD (entry h) u 0 < 2 ^ 32)
-    → Close (2 ^ 32) (p .N) (charges p amplitudes d) (phase (p .N) (p .k) K (treeSample p blocks entry d t))
-    (phase (p .N) (p .k) K (entry (t * 2 ^ d + entryNumber bits d)))
-unfolding treeSample charges
-tree-sample-near p d t bits K blocks amplitudes entry ok heavy bit holds word =
-    tree-near (p .N) (phase (p .N) (p .k) K) (λ x. (u : ℕ) → getD x u 0 < 2 ^ 32) _ entry bits (λ i. charge p (getD amplitudes i 0)) d t word
-    (λ i l x₀ x₁ h₀ h₁. cmux-below (p .N) (p .k) (p .g) (p .L) (selector p i blocks) x₀ x₁) bit
-    (λ i l x₀ x₁ h₀. cmux-near (p .N) (p .k) (p .g) (p .L) (p .W) (bits i) (getD amplitudes i 0) K (selector p i blocks) x₀ x₁ ok heavy (bit i l) (holds i l) h₀)
+-- Under the key K, whose words add up to at most W, the block of each of d selectors holds its bit within its amplitude.
+pub record Selects (p : Parameters) (d : ℕ) (bits : ℕ → ℕ) (K blocks amplitudes : List ℕ) : Type 0 where
+  pub gadget : Lawful (p .g) (p .L)
+  pub light : sum (p .k * p .N) (coefficients K) ≤ p .W
+  pub bit : (i : ℕ) → i < d → bits i ≤ 1
+  pub holds : (i : ℕ) → i < d → Holds p (bits i) (getD amplitudes i 0) K (selector p i blocks)
 
--- If that entry is within A of f, the sample is within A plus the charges of f.
-pub tree-sample-within : (p : Parameters) (A d t : ℕ) (bits : ℕ → ℕ) (K blocks amplitudes : List ℕ) (entry : (h : ℕ) → List ℕ) (f : ℕ → ℕ)
-    → Lawful (p .g) (p .L) → sum (p .k * p .N) (coefficients K) ≤ p .W
-    → ((i : ℕ) → i < d → bits i ≤ 1)
-    → ((i : ℕ) → i < d → Holds p (bits i) (getD amplitudes i 0) K (selector p i blocks))
-    → ((h u : ℕ) → getD (entry h) u 0 < 2 ^ 32)
-    → Close (2 ^ 32) (p .N) A (phase (p .N) (p .k) K (entry (t * 2 ^ d + entryNumber bits d))) f
-    → Close (2 ^ 32) (p .N) (A + charges p amplitudes d) (phase (p .N) (p .k) K (treeSample p blocks entry d t)) f
-tree-sample-within p A d t bits K blocks amplitudes entry f ok heavy bit holds word near =
-    close-weaken (le-of-eq (add-comm (charges p amplitudes d) A))
-    (close-trans (tree-sample-near p d t bits K blocks amplitudes entry ok heavy bit holds word) near)
+-- Entries that are any samples of words.
+module _ (p : Parameters) (d t : ℕ) (bits : ℕ → ℕ) (K blocks amplitudes : List ℕ) (given : Selects p d bits K blocks amplitudes)
+    (entry : (h : ℕ) → List ℕ) (word : (h u : ℕ) → getD (entry h) u 0 < 2 ^ 32) where
+  -- The sample's phase is within the sum of the charges of that of the entry that the bits name.
+  pub tree-sample-near : Close (2 ^ 32) (p .N) (charges p amplitudes d) (phase (p .N) (p .k) K (treeSample p blocks entry d t))
+      (phase (p .N) (p .k) K (entry (t * 2 ^ d + entryNumber bits d)))
+  unfolding treeSample charges
+  tree-sample-near =
+      tree-near (p .N) (phase (p .N) (p .k) K) (λ x. (u : ℕ) → getD x u 0 < 2 ^ 32) _ entry bits (λ i. charge p (getD amplitudes i 0)) d t word
+      (λ i l x₀ x₁ h₀ h₁. cmux-below (p .N) (p .k) (p .g) (p .L) (selector p i blocks) x₀ x₁) (given .bit)
+      (λ i l x₀ x₁ h₀. cmux-near (p .N) (p .k) (p .g) (p .L) (p .W) (bits i) (getD amplitudes i 0) K (selector p i blocks) x₀ x₁
+      (given .gadget) (given .light) (given .bit i l) (given .holds i l) h₀)
+
+  -- If that entry is within A of f, the sample is within A plus the charges of f.
+  pub tree-sample-within : (A : ℕ) (f : ℕ → ℕ) → Close (2 ^ 32) (p .N) A (phase (p .N) (p .k) K (entry (t * 2 ^ d + entryNumber bits d))) f
+      → Close (2 ^ 32) (p .N) (A + charges p amplitudes d) (phase (p .N) (p .k) K (treeSample p blocks entry d t)) f
+  tree-sample-within A f near = close-weaken (le-of-eq (add-comm (charges p amplitudes d) A)) (close-trans tree-sample-near near)

@@ -7,12 +7,12 @@ use Prim.Native.Nat.{ℕ, _+_, _*_, _/_, _^_, _≤_, _<_}
 use native.Mathlib.Omega.{arith}
 use lib.Dec.{lit<}
 use lib.ListN.{length, getD}
-use Rattle.torus.specs.Sum.{sum, chunk}
+use Rattle.torus.specs.Sum.{chunk}
 use Rattle.torus.specs.Bytes.{AreBytes, words, bytes}
 use Rattle.torus.proofs.Lists.{all-below}
 use Rattle.torus.proofs.Joined.{chunk-inside, chunk-below, length-chunk, words-chunk}
 use Rattle.torus.proofs.Parts.{bytes-words}
-use Rattle.ring.specs.Polynomial.{coefficients, Agree}
+use Rattle.ring.specs.Polynomial.{Agree}
 use Rattle.ring.proofs.Close.{Close, close-to}
 use Rattle.trlwe.specs.Sample.{phase, decrypted}
 use Rattle.trlwe.proofs.Decoding.{message-word}
@@ -20,11 +20,10 @@ use Rattle.trlwe.proofs.Phases.{trivial-phase, trivial-below}
 use Rattle.trlwe.proofs.Decrypted.{decrypted-near}
 use Rattle.lookup.specs.Tree.{entryNumber}
 use Rattle.lookup.specs.declared.Numbers.{Numbers}
-use Rattle.lookup.specs.Numbers.{LawfulNumbers, masks, weight, parameters}
-use Rattle.trgsw.specs.Parameters.{Holds}
-use Rattle.lookup.specs.Lookup.{selector, entryClasses, entryMessage, entrySample, treeSample, charges}
+use Rattle.lookup.specs.Numbers.{LawfulNumbers, masks, parameters}
+use Rattle.lookup.specs.Lookup.{entryClasses, entryMessage, entrySample, treeSample, charges}
 use Rattle.lookup.proofs.Trees.{entry-number-lt}
-use Rattle.lookup.proofs.Noise.{tree-sample-near}
+use Rattle.lookup.proofs.Noise.{Selects, tree-sample-near}
 
 -- Lawful numbers, and classes below M.
 module _ (x : Numbers) (classes : List ℕ) (ok : LawfulNumbers x) (below : (i : ℕ) → i < length classes → getD classes i 0 < x .M) where
@@ -48,10 +47,7 @@ module _ (x : Numbers) (classes : List ℕ) (ok : LawfulNumbers x) (below : (i :
 
   -- ---- a lookup among them
 
-  -- For k masks and a key whose words add up to at most W: d selectors, each with a block that holds its bit within its amplitude.
-  module _ (bits : ℕ → ℕ) (K blocks amplitudes : List ℕ) (heavy : sum (masks x * x .N) (coefficients K) ≤ weight x)
-      (bit : (i : ℕ) → i < x .d → bits i ≤ 1)
-      (holds : (i : ℕ) → i < x .d → Holds (parameters x) (bits i) (getD amplitudes i 0) K (selector (parameters x) i blocks)) where
+  module _ (bits : ℕ → ℕ) (K blocks amplitudes : List ℕ) (given : Selects (parameters x) (x .d) bits K blocks amplitudes) where
     -- The phase is within the charges of the encoding of the entry that the bits name.
     pub public-near : Close (2 ^ 32) (x .N) (charges (parameters x) amplitudes (x .d))
         (phase (x .N) (masks x) K (treeSample (parameters x) blocks (entrySample x classes) (x .d) 0)) (entryMessage x (entryNumber bits (x .d)) classes)
@@ -60,7 +56,7 @@ module _ (x : Numbers) (classes : List ℕ) (ok : LawfulNumbers x) (below : (i :
         let same : 0 * 2 ^ x .d + entryNumber bits (x .d) ≡ entryNumber bits (x .d) = omega arith in
         close-to
         (subst (λ h. Close (2 ^ 32) (x .N) (charges (parameters x) amplitudes (x .d)) (phase (x .N) (masks x) K (treeSample (parameters x) blocks entry (x .d) 0)) (phase (x .N) (masks x) K (entry h)))
-        same (tree-sample-near (parameters x) (x .d) 0 bits K blocks amplitudes entry (ok .gadget) heavy bit holds entry-below))
+        same (tree-sample-near (parameters x) (x .d) 0 bits K blocks amplitudes given entry entry-below))
         (entry-phase K (entryNumber bits (x .d)))
 
     -- Where the charges are below half of a band, the sample holds the classes of that entry.
@@ -68,7 +64,7 @@ module _ (x : Numbers) (classes : List ℕ) (ok : LawfulNumbers x) (below : (i :
         → decrypted (x .N) (masks x) (x .M) (x .s) K (treeSample (parameters x) blocks (entrySample x classes) (x .d) 0) ≡ entryClasses x (entryNumber bits (x .d)) classes
     public-classes size quiet =
         let inside : entryNumber bits (x .d) * x .s + x .s ≤ length classes =
-        omega (arith, chunk-inside (entryNumber bits (x .d)) (2 ^ x .d) (x .s) (entry-number-lt bits (x .d) bit), size) in
+        omega (arith, chunk-inside (entryNumber bits (x .d)) (2 ^ x .d) (x .s) (entry-number-lt bits (x .d) (given .bit)), size) in
         decrypted-near (x .N) (masks x) (x .M) (x .s) (charges (parameters x) amplitudes (x .d)) K _ (entryClasses x (entryNumber bits (x .d)) classes) (ok .class-number)
         (length-chunk (x .s) (entryNumber bits (x .d)) classes inside) (λ i l. class-below (entryNumber bits (x .d)) i) quiet
         (λ i l. let low : i < x .N = omega (arith, ok .most) in public-near i low)

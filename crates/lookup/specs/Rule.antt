@@ -13,6 +13,7 @@ use Rattle.trlwe.specs.Sample.{Key, phase}
 use Rattle.trlwe.specs.Calls.{decryptClasses, decryptClassesClasses}
 use Rattle.trgsw.specs.Parameters.{Holds}
 use Rattle.trgsw.specs.Calls.{encryptSelector, encryptSelectorBlock}
+use Rattle.lookup.specs.declared.Numbers.{Numbers}
 use Rattle.lookup.specs.Numbers.{masks, parameters}
 use Rattle.lookup.specs.Tree.{entryNumber}
 use Rattle.lookup.specs.Job.{Job}
@@ -43,15 +44,15 @@ pub record Accurate (j : Job) (bits : ℕ → ℕ) (key out : List ℕ) (answer 
 -- ---- where the blocks come from encryption
 
 -- A lent block is what an accepted encryption of bit m left, and the declared amplitude is no less than the bound that it reported.
-pub record Made (N g L m : ℕ) (key masks errors room block : List ℕ) (amplitude : ℕ) : Type 0 where
-  pub accepted : number (encryptSelector N g L m key masks errors room) ≡ 0
+pub record Made (x : Numbers) (m : ℕ) (key masks errors room block : List ℕ) (amplitude : ℕ) : Type 0 where
+  pub accepted : number (encryptSelector (x .N) (x .g) (x .L) m key masks errors room) ≡ 0
   pub are-bytes : AreBytes errors
-  pub left : block ≡ encryptSelectorBlock N g L m key masks errors room
-  pub declared : bound (encryptSelector N g L m key masks errors room) ≤ amplitude
+  pub left : block ≡ encryptSelectorBlock (x .N) (x .g) (x .L) m key masks errors room
+  pub declared : bound (encryptSelector (x .N) (x .g) (x .L) m key masks errors room) ≤ amplitude
 
 -- A job whose blocks are made so, each with masks, errors and a room of its own. A lent block has 16·L·N bytes.
 pub record Encrypted (j : Job) (bits : ℕ → ℕ) (masks errors room : ℕ → List ℕ) (key out : List ℕ) : Type 0 where
   pub key-fits : Key (j .numbers .N) 1 key
   pub made : (i : ℕ) → i < j .numbers .d → let x = j .numbers in
-      Made (x .N) (x .g) (x .L) (bits i) key (masks i) (errors i) (room i) (chunk (16 * x .L * x .N) i (j .blocks)) (getD (words (j .amplitudes)) i 0)
+      Made x (bits i) key (masks i) (errors i) (room i) (chunk (16 * x .L * x .N) i (j .blocks)) (getD (words (j .amplitudes)) i 0)
   pub out-length : length out ≡ 4 * j .numbers .s

@@ -7,7 +7,7 @@ use lib.ListN.{length, take, drop, length-drop}
 use Rattle.torus.proofs.Parts.{back-all}
 use Rattle.lookup.specs.Numbers.{LawfulNumbers, parameters}
 use Rattle.trgsw.specs.Parameters.{blockSize}
-use Rattle.jobfile.proofs.Held.{held-lawful, held-size, blocks-bytes, amplitudes-bytes, classes-bytes, told}
+use Rattle.jobfile.proofs.Held.{held-lawful, held-size, blocks-bytes, amplitudes-bytes, classes-bytes, same-job, told}
 use borrow.Author.Needs.{needs}
 use Rattle.jobfile.proofs.look_up_with.Statement.{statement}
 use Rattle.jobfile.proofs.look_up_with.Tie as tie
@@ -101,10 +101,10 @@ returns c =
     let e = u .block-size .ensures .0 in
     let G = c .before .before .before .before .before .before .before .before .before .before .before .gather-blocks in
     let A = c .before .before .before .before .before .before .gather-amplitudes in
-    told (a .file .now) (a .x) _ _ _ _ (s .pre .0) (s .pre .1)
+    told (a .file .now) _ _ (s .pre .0) (same-job (a .file .now) (a .x) _ _ _ (s .pre .1)
     (blocks-bytes _ _ _ (s .pre .1) e (a .x .d * blockSize (parameters (a .x))) _ (omega (arith, G .kept .0, s .pre .2)) (λ i. c .before .before .before .before .before .before .before .before .before .slice-known3 .given i .fits) (G .ensures))
     (amplitudes-bytes _ _ _ (s .pre .1) e (a .x .d) _ (omega (arith, A .kept .0, s .pre .3)) (λ i. c .before .before .before .before .slice-known4 .given i .fits) (A .ensures))
-    (classes-bytes _ _ _ (s .pre .1) e _ (held-size _ _ (s .pre .0) (s .pre .1) _ e .0) (λ i. u .before .shared-slice-known .given i .fits))
+    (classes-bytes _ _ _ (s .pre .1) e _ (held-size _ _ (s .pre .0) (s .pre .1) _ e .0) (λ i. u .before .shared-slice-known .given i .fits)))
     (c .evaluate .ensures)
 
 pub look-up-with-spec : {M : Type 1} → statement M
