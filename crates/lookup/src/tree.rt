@@ -83,7 +83,7 @@ fn join(
 {
     let p = crate::parameters(x);
     let own = sample.len();
-    let size = (p.k + 1) * p.L as usize * own;
+    let size = 4 * crate::block_size(x) as usize;
     let at = i * size;
     trgsw::cmux::cmux_in_place(
         sample,

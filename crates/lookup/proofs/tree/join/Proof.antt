@@ -10,64 +10,40 @@ use Rattle.torus.specs.Bytes.{words}
 use Rattle.torus.proofs.Parts.{words-lent}
 use Rattle.gadget.specs.Digits.{Lawful}
 use Rattle.ring.specs.Polynomial.{Degree}
-use Rattle.trgsw.specs.declared.Parameters.{Parameters}
 use Rattle.trgsw.specs.Parameters.{sampleSize, blockSize, cmuxSample}
+use Rattle.lookup.specs.Numbers.{parameters}
 use Rattle.lookup.specs.Lookup.{selector}
-use Rattle.lookup.proofs.Sizes.{masks-le, rows-le}
 use borrow.Author.Needs.{needs}
 use Rattle.lookup.proofs.tree.join.Statement.{statement}
 use Rattle.lookup.proofs.tree.join.Tie as tie
-
--- The bytes of a block: as many samples as it has rows.
-block-bytes : (p : Parameters) (own : ℕ) → own ≡ 4 * sampleSize p → (p .k + 1) * p .L * own ≡ 4 * blockSize p
-block-bytes p own e = rw e (omega arith)
-
--- Block i lies inside the blocks.
-block-inside : (p : Parameters) (i own blocks : ℕ) → own ≡ 4 * sampleSize p → 4 * (suc i * blockSize p) ≤ blocks
-    → i * ((p .k + 1) * p .L * own) + (p .k + 1) * p .L * own ≤ blocks
-block-inside p i own blocks e inside = rw (block-bytes p own e) (omega (arith, suc-mul i (blockSize p)))
 
 -- The length of a part.
 length-chunk-at : (p e : ℕ) (xs : List ℕ) → e ≤ length xs → length (take (e - p) (drop p xs)) ≡ e - p
 length-chunk-at p e xs l = length-take-le (e - p) (drop p xs) (omega (arith, length-drop p xs))
 
--- Where the function starts, seen from where its parameter set is known.
-abbrev start : tie.After-parameters → tie.Start
-start c = c .before .before .before .before .before
+-- Where the function starts, seen from where the size of a block is known.
+abbrev start : tie.After-block-size → tie.Start
+start c = c .before .before .before .before .before .before
 
--- That set is the lookup's, so the sample's slice and the blocks have the sizes that it gives.
-own-size : (c : tie.After-parameters) → length (start c .args .sample .now) ≡ 4 * sampleSize (c .parameters .result)
-own-size c = subst (λ p. length (start c .args .sample .now) ≡ 4 * sampleSize p) (sym (c .parameters .ensures)) (start c .pre .1)
-
-block-within : (c : tie.After-parameters) → let p = c .parameters .result in let a = start c .args in let size = (p .k + 1) * p .L * length (a .sample .now) in
-    a .i * size + size ≤ length (a .blocks .now)
+-- Block i lies inside the blocks.
+block-within : (c : tie.After-block-size) → let a = start c .args in let size = 4 * c .block-size .result in a .i * size + size ≤ length (a .blocks .now)
 block-within c =
     let s = start c in
-    block-inside (c .parameters .result) (s .args .i) _ _ (own-size c)
-    (subst (λ p. 4 * (suc (s .args .i) * blockSize p) ≤ length (s .args .blocks .now)) (sym (c .parameters .ensures)) (s .pre .3))
+    let inside : 4 * (suc (s .args .i) * c .block-size .result) ≤ length (s .args .blocks .now) =
+    omega (arith, s .pre .3, ap (λ (n : ℕ). 4 * (suc (s .args .i) * n)) (c .block-size .ensures .0)) in
+    omega (arith, inside, suc-mul (s .args .i) (c .block-size .result))
 
 parameters-requires : tie.Need-parameters-requires
 parameters-requires c κs = search needs
 
-add-size : tie.Need-add-size
-add-size c =
-    let s = start (c .before) in
-    record { fits = omega (arith, ap (λ p. p .k) (c .before .parameters .ensures), masks-le (s .args .x) (s .pre .0 .lawful)) }
-
-cast-size : tie.Need-cast-size
-cast-size c = search needs
+block-size-requires : tie.Need-block-size-requires
+block-size-requires c κs = search needs
 
 mul-size : tie.Need-mul-size
-mul-size c =
-    let P = c .before .before in
-    let s = start P in
-    record { fits = omega (arith, ap (λ p. (p .k + 1) * p .L) (P .parameters .ensures), rows-le (s .args .x) (s .pre .0 .lawful)) }
-
-mul-size-2 : tie.Need-mul-size-2
-mul-size-2 c = record { fits = omega (arith, block-within (c .before .before)) }
+mul-size c = omega (arith, c .block-size .ensures .1)
 
 mul-at : tie.Need-mul-at
-mul-at c = record { fits = omega (arith, block-within (c .before .before)) }
+mul-at c = omega (arith, block-within c)
 
 sub-cmux-in-place : tie.Need-sub-cmux-in-place
 sub-cmux-in-place c = search needs
@@ -79,7 +55,7 @@ part-cmux-in-place-end : tie.Need-part-cmux-in-place-end
 part-cmux-in-place-end c = search needs
 
 add-cmux-in-place : tie.Need-add-cmux-in-place
-add-cmux-in-place c = record { fits = omega (arith, block-within (c .before .before .before .before)) }
+add-cmux-in-place c = omega (arith, block-within (c .before .before))
 
 sub-cmux-in-place-2 : tie.Need-sub-cmux-in-place-2
 sub-cmux-in-place-2 c = search needs
@@ -88,22 +64,25 @@ part-cmux-in-place-start-2 : tie.Need-part-cmux-in-place-start-2
 part-cmux-in-place-start-2 c = search needs
 
 part-cmux-in-place-end-2 : tie.Need-part-cmux-in-place-end-2
-part-cmux-in-place-end-2 c = omega (arith, block-within (c .before .before .before .before))
+part-cmux-in-place-end-2 c = omega (arith, block-within (c .before .before))
 
 cmux-in-place-requires : tie.Need-cmux-in-place-requires
 cmux-in-place-requires c κs =
-    let P = c .before .before .before .before .before in
-    let s = start P in
-    let p = P .parameters .result in
+    let B = c .before .before .before in
+    let s = start B in
     let own = length (s .args .sample .now) in
-    let size = (p .k + 1) * p .L * own in
+    let size = 4 * B .block-size .result in
     let at = s .args .i * size in
-    let ok = s .pre .0 .lawful in (
-      subst (λ q. Degree (q .N)) (sym (P .parameters .ensures)) (ok .degree),
-      subst (λ q. Lawful (q .g) (q .L)) (sym (P .parameters .ensures)) (ok .gadget),
-      own-size P,
-      omega (arith, own-size P, s .pre .2, length-take-le (own - 0) (s .args .work .now) (omega (arith, s .pre .2))),
-      omega (arith, block-bytes p own (own-size P), block-within P, length-chunk-at at (at + size) (s .args .blocks .now) (block-within P)),
+    let work = take (own - 0) (drop 0 (s .args .work .now)) in
+    let block = take (at + size - at) (drop at (s .args .blocks .now)) in
+    let ok = s .pre .0 .lawful in
+    subst (λ p. Degree (p .N) × Lawful (p .g) (p .L) × (own ≡ 4 * sampleSize p) × (length work ≡ 4 * sampleSize p) × (length block ≡ 4 * blockSize p))
+    (sym (B .before .parameters .ensures)) (
+      ok .degree,
+      ok .gadget,
+      s .pre .1,
+      omega (arith, s .pre .1, s .pre .2, length-take-le (own - 0) (s .args .work .now) (omega (arith, s .pre .2))),
+      omega (arith, B .block-size .ensures .0, length-chunk-at at (at + size) (s .args .blocks .now) (block-within B)),
     )
 
 charge-of-requires : tie.Need-charge-of-requires
@@ -120,21 +99,23 @@ same-length-2 c = search needs
 
 returns : tie.Need-returns
 returns c =
-    let P = c .before .before .before .before .before .before .before .before .before .before .before .before in
-    let a = start P .args in
-    let p = P .parameters .result in
+    let G = c .before .before .before .before .before .before in
+    let B = G .before .before .before .before in
+    let a = start B .args in
+    let p = parameters (a .x) in
     let own = length (a .sample .now) in
-    let size = (p .k + 1) * p .L * own in
+    let size = 4 * B .block-size .result in
     let at = a .i * size in
-    let B = blockSize p in
-    let block : words (take (at + size - at) (drop at (a .blocks .now))) ≡ selector p (a .i) (words (a .blocks .now)) =
-    words-lent (a .i * B) B at (at + size - at) (a .blocks .now) (rw (block-bytes p own (own-size P)) (omega arith)) (omega (arith, block-bytes p own (own-size P))) in
-    let kept : words (take (own - 0) (drop 0 (a .work .now))) ≡ take (sampleSize p) (words (a .work .now)) =
-    words-lent 0 (sampleSize p) 0 (own - 0) (a .work .now) refl (omega (arith, own-size P)) in (
-      c .before .before .before .before .before .before .cmux-in-place .ensures .0
-          ∙ ap₂ (λ b x. cmuxSample p b (words (a .sample .now)) x) block kept
-          ∙ ap (λ q. cmuxSample q (selector q (a .i) (words (a .blocks .now))) (words (a .sample .now)) (take (sampleSize q) (words (a .work .now))))
-          (P .parameters .ensures),
+    let block = take (at + size - at) (drop at (a .blocks .now)) in
+    let work = take (own - 0) (drop 0 (a .work .now)) in
+    let block-words : words block ≡ selector p (a .i) (words (a .blocks .now)) =
+    words-lent (a .i * blockSize p) (blockSize p) at (at + size - at) (a .blocks .now)
+    (omega (arith, ap (λ (n : ℕ). a .i * n) (B .block-size .ensures .0))) (omega (arith, B .block-size .ensures .0)) in
+    let work-words : words work ≡ take (sampleSize p) (words (a .work .now)) =
+    words-lent 0 (sampleSize p) 0 (own - 0) (a .work .now) refl (omega (arith, start B .pre .1)) in (
+      G .cmux-in-place .ensures .0
+          ∙ ap (λ q. cmuxSample q (words block) (words (a .sample .now)) (words work)) (B .before .parameters .ensures)
+          ∙ ap₂ (λ b x. cmuxSample p b (words (a .sample .now)) x) block-words work-words,
       omega (arith, c .raise .ensures .0, c .before .charge-of .ensures),
       c .raise .ensures .1,
     )
@@ -144,10 +125,8 @@ join-spec =
     tie.close
     (tie.spec
     parameters-requires
-    add-size
-    cast-size
+    block-size-requires
     mul-size
-    mul-size-2
     mul-at
     sub-cmux-in-place
     part-cmux-in-place-start
