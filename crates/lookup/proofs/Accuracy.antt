@@ -59,7 +59,7 @@ module _ (j : Job) (accepted : IsAccepted j) where
   lookup-words =
       ap words lookup-bytes
       ∙ words-bytes _ (tree-sample-below (parameters (j .numbers)) (words (j .blocks)) _ (j .numbers .d) 0
-      (entry-below (j .numbers) (words (j .classes)) (ok .job .numbers) (ok .job .contents .below)))
+      (entry-below (j .numbers) (words (j .classes)) (ok .job .numbers .class-number) (ok .job .contents .below) (parameters (j .numbers))))
 
   pub lookup-length : length (lookupSample j) ≡ 4 * sampleSize (parameters (j .numbers))
   lookup-length =
@@ -88,8 +88,8 @@ module _ (j : Job) (accepted : IsAccepted j) (bits : ℕ → ℕ) (key out : Lis
       Close (2 ^ 32) (x .N) (noiseBound j) (phase (x .N) (masks x) (words key) (words (lookupSample j))) (entryMessage x (named j bits) (words (j .classes)))
   lookup-near =
       rw (lookup-words j accepted)
-      (public-near (j .numbers) (words (j .classes)) (fit .job .numbers) (fit .job .contents .below) bits (words key) (words (j .blocks))
-      (words (j .amplitudes)) selects)
+      (public-near (j .numbers) (words (j .classes)) (fit .job .numbers .class-number) (fit .job .contents .below)
+      (parameters (j .numbers)) (j .numbers .d) bits (words key) (words (j .blocks)) (words (j .amplitudes)) selects)
 
   -- As a distance of words, that is at most the reported bound.
   lookup-within : let x = j .numbers in (i : ℕ) → i < x .N
@@ -97,7 +97,7 @@ module _ (j : Job) (accepted : IsAccepted j) (bits : ℕ → ℕ) (key out : Lis
   lookup-within i l =
       let x = j .numbers in
       let word : entryMessage x (named j bits) (words (j .classes)) i < 2 ^ 32 =
-      entry-word x (words (j .classes)) (fit .job .numbers) (fit .job .contents .below) (named j bits) i in
+      entry-word x (words (j .classes)) (fit .job .numbers .class-number) (fit .job .contents .below) (named j bits) i in
       rw (lookup-accepts j fit) (near-distance (le-of-lt word) (lookup-near i l))
 
   -- So it holds the classes of that entry.
@@ -105,8 +105,9 @@ module _ (j : Job) (accepted : IsAccepted j) (bits : ℕ → ℕ) (key out : Lis
       decrypted (x .N) (masks x) (x .M) (x .s) (words key) (words (lookupSample j)) ≡ entryClasses x (named j bits) (words (j .classes))
   lookup-holds =
       rw (lookup-words j accepted)
-      (public-classes (j .numbers) (words (j .classes)) (fit .job .numbers) (fit .job .contents .below) bits (words key) (words (j .blocks))
-      (words (j .amplitudes)) selects (omega (arith, length-words (j .classes), fit .job .lengths .classes-length)) (fit .quiet))
+      (public-classes (j .numbers) (words (j .classes)) (fit .job .numbers .class-number) (fit .job .contents .below)
+      (parameters (j .numbers)) (j .numbers .d) bits (words key) (words (j .blocks)) (words (j .amplitudes)) selects
+      (fit .job .numbers .most) (omega (arith, length-words (j .classes), fit .job .lengths .classes-length)) (fit .quiet))
 
   -- The accuracy rule.
   pub accuracy : Accurate j bits key out (lookup j) (lookupSample j)

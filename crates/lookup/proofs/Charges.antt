@@ -40,26 +40,30 @@ module _ (p : Parameters) (amplitudes : List ℕ) where
   charges-up zero e l = absurd (omega arith)
   charges-up (suc d) e l = up-one d e (λ low. charges-up d e low) (eq-or-lt-of-le (le-of-suc-le-suc l))
 
--- What the code asks of the numbers of a charge.
-pub chargeable : (x : Numbers) (d : ℕ) (amplitudes : List ℕ) → Selectors x d amplitudes → (i : ℕ) → i < d
-    → let p = parameters x in Chargeable (p .N) (p .k) (p .g) (p .L) (p .W) (getD (words amplitudes) i 0)
-chargeable x d amplitudes ok i l =
-    let fit = ok .lawful in
-    record { lawful = fit .gadget; degree = fit .degree .most; masks = masks-le x fit; weight = weight-le x fit; amplitude = ok .small i l }
-
--- Sixteen charges are below 2^64.
-module _ (x : Numbers) (d : ℕ) (amplitudes : List ℕ) (ok : Selectors x d amplitudes) where
-  charges-below : (i : ℕ) → i ≤ d → charges (parameters x) (words amplitudes) i ≤ i * (5 * 2 ^ 57 + 4097 * 2 ^ 31)
-  charges-below zero l = omega (arith, charges-none (parameters x) (words amplitudes))
+-- Sixteen charges are below 2^64, whatever the parameter set.
+module _ (p : Parameters) (d : ℕ) (amplitudes : List ℕ)
+    (ok : (i : ℕ) → i < d → Chargeable (p .N) (p .k) (p .g) (p .L) (p .W) (getD amplitudes i 0)) where
+  charges-below : (i : ℕ) → i ≤ d → charges p amplitudes i ≤ i * (5 * 2 ^ 57 + 4097 * 2 ^ 31)
+  charges-below zero l = omega (arith, charges-none p amplitudes)
   charges-below (suc i) l = omega (
     arith,
-    charges-more (parameters x) (words amplitudes) (suc i) i (sym (add-one i)),
+    charges-more p amplitudes (suc i) i (sym (add-one i)),
     charges-below i (omega arith),
-    charge-le _ _ _ _ _ _ (chargeable x d amplitudes ok i l),
+    charge-le _ _ _ _ _ _ (ok i l),
   )
 
-  pub charges-fit : (i : ℕ) → i ≤ d → charges (parameters x) (words amplitudes) i < 2 ^ 64
-  charges-fit i l = omega (arith, charges-below i l, ok .depth)
+  pub charges-fit : d ≤ 16 → (i : ℕ) → i ≤ d → charges p amplitudes i < 2 ^ 64
+  charges-fit few i l = omega (arith, charges-below i l)
+
+-- What the code asks of a lookup's numbers gives all of this.
+module _ (x : Numbers) (d : ℕ) (amplitudes : List ℕ) (ok : Selectors x d amplitudes) where
+  pub chargeable : (i : ℕ) → i < d → let p = parameters x in Chargeable (p .N) (p .k) (p .g) (p .L) (p .W) (getD (words amplitudes) i 0)
+  chargeable i l =
+      let fit = ok .lawful in
+      record { lawful = fit .gadget; degree = fit .degree .most; masks = masks-le x fit; weight = weight-le x fit; amplitude = ok .small i l }
+
+  pub selectors-fit : (i : ℕ) → i ≤ d → charges (parameters x) (words amplitudes) i < 2 ^ 64
+  selectors-fit = charges-fit (parameters x) d (words amplitudes) chargeable (ok .depth)
 
 -- Fewer selectors.
 pub fewer : (x : Numbers) (d e : ℕ) (amplitudes : List ℕ) → e ≤ d → Selectors x d amplitudes → Selectors x e amplitudes

@@ -7,7 +7,7 @@ use borrow.Author.Needs.{needs}
 use Rattle.torus.specs.Bytes.{words}
 use Rattle.lookup.specs.Numbers.{parameters}
 use Rattle.lookup.specs.Lookup as Lookup
-use Rattle.lookup.proofs.Charges.{charges-none, charges-more, charges-fit, fewer}
+use Rattle.lookup.proofs.Charges.{charges-none, charges-more, selectors-fit, fewer}
 use Rattle.lookup.proofs.tree.charges.Statement.{statement}
 use Rattle.lookup.proofs.tree.charges.Tie as tie
 
@@ -38,7 +38,7 @@ add-sum c =
         arith,
         c .charge-of .ensures,
         charges-more (parameters x) (words (s .args .amplitudes .now)) (i + 1) i refl,
-        charges-fit x (s .args .d) (s .args .amplitudes .now) (s .pre) (i + 1) (omega arith),
+        selectors-fit x (s .args .d) (s .args .amplitudes .now) (s .pre) (i + 1) (omega arith),
       );
     }
 

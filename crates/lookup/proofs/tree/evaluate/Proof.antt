@@ -3,7 +3,7 @@ use native.Mathlib.Omega.{arith}
 use mathlib.Core.Path.{ap, _∙_}
 use Prim.Native.Nat.{ℕ, _/_}
 use lib.ListN.{replicate}
-use Rattle.lookup.proofs.Charges.{charges-fit}
+use Rattle.lookup.proofs.Charges.{selectors-fit}
 use native.Mathlib.Nat.{le-refl}
 use borrow.Author.Needs.{needs}
 use Rattle.lookup.proofs.tree.evaluate.Statement.{statement}
@@ -15,7 +15,7 @@ tree-requires c κs =
     let a = s .args in (
       s .pre .0,
       s .pre .1,
-      omega (arith, charges-fit (a .x) (a .x .d) (a .amplitudes .now) (s .pre .0) (a .x .d) (le-refl (a .x .d))),
+      omega (arith, selectors-fit (a .x) (a .x .d) (a .amplitudes .now) (s .pre .0) (a .x .d) (le-refl (a .x .d))),
       omega (arith, s .pre .1 .entries),
     )
 

@@ -60,7 +60,7 @@ write-trivial-requires c κs =
       rw (c .before .before .parameters .ensures) (s .pre .0 .most),
       omega (arith, entry-inside x (s .args .t) _ _ _ (s .args .classes .now) (s .pre .1)),
       subst (λ ws. (i : ℕ) → i < x .s → getD ws i 0 < x .M) (sym (lent c))
-          (λ i l. class-below x (words (s .args .classes .now)) (s .pre .0) (s .pre .1 .below) (s .args .t) i),
+          (λ i l. class-below x (words (s .args .classes .now)) (s .pre .0 .class-number) (s .pre .1 .below) (s .args .t) i),
     )
 
 same-length : tie.Need-same-length
