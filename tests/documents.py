@@ -2,8 +2,8 @@
 """Checks the names that the documents give.
 
 Every path in backticks in docs/*.md and README.md exists, and so does what a link leads to. In each table that has a column
-"File", every name in backticks in the column "Theorem", "Definition" or "Solution" is defined in one of the files of its row.
-Prints what is missing, and then ends with status 1.
+"File", every name in backticks in the column "Theorem", "Definition" or "Solution" is defined in one of the files of its row. Each
+must-fail edit that a sentence "Edit: .." or "Edits: .." names is there. Prints what is missing, and then ends with status 1.
 
 A path is relative to the root, to crates/, or to a crate; NAME and FILE in it stand for any name. In a cell, "the same" is
 the files of the row above, `Laws.antt` stands beside the path before it, and `proofs/X.antt` of `a`; of `b` is a file of
@@ -105,12 +105,19 @@ def missing_names(document):
                 yield f"line {number}: `{name}` is not defined in {cell}"
 
 
+def missing_edits(document):
+    """The must-fail edits that a document names and no crate has."""
+    named = [n for sentence in re.findall(r"\bEdits?:([^.]*)\.", document.read_text()) for n in quoted(sentence)]
+    return [n for n in named if not list(CRATES.glob(f"*/must-fail/{n}.edit"))]
+
+
 def main():
     faults = []
     for document in DOCUMENTS:
         where = document.relative_to(ROOT)
         faults += [f"{where}: `{path}` does not exist" for path in missing_paths(document)]
         faults += [f"{where}: {fault}" for fault in missing_names(document)]
+        faults += [f"{where}: no edit `{name}`" for name in missing_edits(document)]
     print("\n".join(faults) if faults else "every path exists, and every name is defined in the file of its row")
     return 1 if faults else 0
 
