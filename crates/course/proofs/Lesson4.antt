@@ -30,6 +30,7 @@ pub entry-five : entryNumber bits 3 ≡ 5
 unfolding entryNumber sum
 entry-five = refl
 
+-- Numbers of such a lookup.
 abbrev pub pairs : Numbers
 pairs = record { N = 2; g = 8; L = 2; M = 16; s = 2; d = 3 }
 

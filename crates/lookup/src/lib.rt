@@ -32,7 +32,7 @@ pub fn entries(d: u64) -> u64
 }
 
 // The parameter set of a lookup: one mask, and keys of up to N ones.
-pub fn parameters(x: Numbers) -> Parameters
+fn parameters(x: Numbers) -> Parameters
     requires { ⌜ LawfulNumbers x ⌝ }
     ensures { λ p. ⌜ p ≡ parameters x ⌝ }
 {
