@@ -7,6 +7,7 @@ pub mod PublicEntries
 pub mod Accuracy
 pub mod EndToEnd
 pub mod Instance
+pub mod PackedInstance
 pub mod Charges
 pub mod Runs
 pub mod Public
