@@ -27,8 +27,7 @@ use Rattle.trgsw.specs.Calls.{encryptSelector, encryptSelectorBlock}
 use Rattle.lookup.specs.Tree.{tree, entryNumber}
 use Rattle.lookup.specs.declared.Numbers.{Numbers}
 use Rattle.lookup.specs.Numbers.{masks, weight}
-use Rattle.trgsw.specs.Parameters.{charge}
-use Rattle.lookup.specs.Lookup.{selector, treeSample, charges}
+use Rattle.lookup.specs.Lookup.{treeSample, charges}
 use Rattle.lookup.specs.Job.{Job}
 use Rattle.lookup.specs.Calls.{lookup, lookupSample}
 use Rattle.lookup.specs.Rule.{Made, Encrypted}
