@@ -109,36 +109,37 @@ module _ (j : Job) (accepted : IsAccepted j) (bits : ℕ → ℕ) (key out : Lis
       (parameters (j .numbers)) (j .numbers .d) bits (words key) (words (j .blocks)) (words (j .amplitudes)) selects
       (fit .job .numbers .most) (omega (arith, length-words (j .classes), fit .job .lengths .classes-length)) (fit .quiet))
 
-  -- The accuracy rule.
-  pub accuracy : Accurate j bits key out (lookup j) (lookupSample j)
-  unfolding masks
-  accuracy =
-      let x = j .numbers in
-      let ok = fit .job .numbers in
-      let decrypts : number (decryptClasses (x .N) (x .M) (x .s) key (lookupSample j) out) ≡ 0 =
-      ap number (decrypt-accepts (x .N) (x .M) (x .s) key (lookupSample j) out (record {
-        key-fits = given .key-fits;
-        class-number = ok .class-number;
-        some = ok .some;
-        most = ok .most;
-        sample-length = lookup-length j accepted;
-        classes-length = given .out-length;
-      })) in
-      record {
-        within = lookup-within;
-        decrypts = decrypts;
-        lists = decrypt-bytes (x .N) (x .M) (x .s) key (lookupSample j) out decrypts ∙ ap bytes lookup-holds;
-      }
+-- The accuracy rule.
+pub accuracy : (j : Job) → IsAccepted j → (bits : ℕ → ℕ) (key out : List ℕ) → Premises j bits key out
+    → Accurate j bits key out (lookup j) (lookupSample j)
+unfolding masks
+accuracy j accepted bits key out given =
+    let x = j .numbers in
+    let ok = lookup-accepted j accepted .job .numbers in
+    let decrypts : number (decryptClasses (x .N) (x .M) (x .s) key (lookupSample j) out) ≡ 0 =
+    ap number (decrypt-accepts (x .N) (x .M) (x .s) key (lookupSample j) out (record {
+      key-fits = given .key-fits;
+      class-number = ok .class-number;
+      some = ok .some;
+      most = ok .most;
+      sample-length = lookup-length j accepted;
+      classes-length = given .out-length;
+    })) in
+    record {
+      within = lookup-within j accepted bits key out given;
+      decrypts = decrypts;
+      lists = decrypt-bytes (x .N) (x .M) (x .s) key (lookupSample j) out decrypts ∙ ap bytes (lookup-holds j accepted bits key out given);
+    }
 
-  -- What decryption leaves are the very bytes that were lent for the entry.
-  pub accuracy-bytes : AreBytes (j .classes) → let x = j .numbers in
-      decryptClassesClasses (x .N) (x .M) (x .s) key (lookupSample j) out ≡ chunk (4 * x .s) (named j bits) (j .classes)
-  accuracy-bytes are-bytes =
-      let x = j .numbers in
-      let h : ℕ = named j bits in
-      let inside : h * (4 * x .s) + 4 * x .s ≤ length (j .classes) =
-      omega (arith, chunk-inside h (2 ^ x .d) (4 * x .s) (entry-number-lt bits (x .d) (given .bit)), fit .job .lengths .classes-length) in
-      accuracy .lists ∙ entry-bytes x h (j .classes) are-bytes inside
+-- What decryption leaves are the very bytes that were lent for the entry.
+pub accuracy-bytes : (j : Job) → IsAccepted j → (bits : ℕ → ℕ) (key out : List ℕ) → Premises j bits key out → AreBytes (j .classes)
+    → let x = j .numbers in decryptClassesClasses (x .N) (x .M) (x .s) key (lookupSample j) out ≡ chunk (4 * x .s) (named j bits) (j .classes)
+accuracy-bytes j accepted bits key out given are-bytes =
+    let x = j .numbers in
+    let h : ℕ = named j bits in
+    let inside : h * (4 * x .s) + 4 * x .s ≤ length (j .classes) =
+    omega (arith, chunk-inside h (2 ^ x .d) (4 * x .s) (entry-number-lt bits (x .d) (given .bit)), lookup-accepted j accepted .job .lengths .classes-length) in
+    accuracy j accepted bits key out given .lists ∙ entry-bytes x h (j .classes) are-bytes inside
 
 -- "With d = 0 the result is the entry itself, bound 0, gates 0."
 pub lookup-none : (j : Job) → IsAccepted j → j .numbers .d ≡ 0
