@@ -2,7 +2,7 @@
 -- Assumes nothing.
 use mathlib.Core.Path.{_≡_, ap, sym, _∙_}
 use mathlib.Core.List.{List, []}
-use Prim.Native.Nat.{ℕ, _+_, _-_, _*_, _^_, _≤_}
+use Prim.Native.Nat.{ℕ, _+_, _-_, _*_, _≤_}
 use native.Mathlib.Omega.{arith}
 use lib.ListN.{length, take, drop}
 use lib.Seq.{drop-drop}
@@ -11,7 +11,7 @@ use Rattle.torus.proofs.Parts.{words-drop, back-all, bytes-words, drop-bytes}
 use Rattle.answers.specs.Answers.{after}
 use Rattle.answers.proofs.Laws.{went-on}
 use Rattle.lookup.specs.declared.Numbers.{Numbers}
-use Rattle.lookup.specs.Numbers.{LawfulNumbers, parameters}
+use Rattle.lookup.specs.Numbers.{LawfulNumbers, parameters, tableSize}
 use Rattle.trgsw.specs.Parameters.{blockSize}
 use Rattle.lookup.specs.Job.{Job}
 use Rattle.lookup.specs.Calls.{lookup, lookupSample}
@@ -33,7 +33,7 @@ module _ (file : List ℕ) (x : Numbers) (e : fileRefusal file ≡ 0) (h : x ≡
 
   -- With blocks of b words, the file is of the words that they give, and not too large.
   pub held-size : (b : ℕ) → b ≡ blockSize (parameters x)
-      → (length file ≡ 4 * (8 + x .d * (1 + b) + readJob file .numbers .s * 2 ^ readJob file .numbers .d)) × (length file ≤ 65536)
+      → (length file ≡ 4 * (8 + x .d * (1 + b) + tableSize (readJob file .numbers))) × (length file ≤ 65536)
   held-size b eb =
       let y = readJob file .numbers in
       let two : x .d * (1 + b) ≡ y .d * (1 + blockSize (parameters y)) = rw (eb, h) in

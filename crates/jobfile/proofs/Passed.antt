@@ -3,7 +3,7 @@
 use mathlib.Core.Path.{_≡_, refl, sym}
 use mathlib.Core.Bool.{Bool, true, false, cond}
 use mathlib.Core.List.{List}
-use Prim.Native.Nat.{ℕ, _*_, _%_, _^_}
+use Prim.Native.Nat.{ℕ, _*_, _%_}
 use lib.Dec.{eqb, leb}
 use lib.ListN.{length, getD}
 use borrow.Author.Tests.{leb-true, eqb-true, le-leb, eq-eqb}
@@ -11,7 +11,7 @@ use Rattle.torus.proofs.Tests.{both, held}
 use Rattle.answers.specs.Checks as Check
 use Rattle.answers.proofs.Laws.{first-none, first-met, first-passed, exact-held, exact-met}
 use Rattle.lookup.specs.declared.Numbers.{Numbers}
-use Rattle.lookup.specs.Numbers.{LawfulNumbers, parameters}
+use Rattle.lookup.specs.Numbers.{LawfulNumbers, parameters, tableSize}
 use Rattle.trgsw.specs.Parameters.{blockSize}
 use Rattle.lookup.proofs.Passed.{numbers-held, numbers-met}
 use Rattle.jobfile.specs.Reader.{behind, tablePart, readJob, Begins, beginning, fileSize, tableCount, sections, fileRefusal}
@@ -44,7 +44,7 @@ five-five false t some = refl
 
 pub record Fits (x : Numbers) (file : List ℕ) : Type 0 where
   pub size : length file ≡ 4 * fileSize x
-  pub count : getD (tablePart (blockSize (parameters x)) (x .d) (behind file)) 0 0 ≡ x .s * 2 ^ x .d
+  pub count : getD (tablePart (blockSize (parameters x)) (x .d) (behind file)) 0 0 ≡ tableSize x
 
 pub sections-held : (x : Numbers) (file : List ℕ) → sections x file ≡ 0 → Fits x file
 sections-held x file e =
@@ -83,7 +83,7 @@ refusal-met file ok =
 -- Where the beginning and the numbers pass, and the sections do not, the number is 5.
 sections-five : (x : Numbers) (file : List ℕ) → (sections x file ≡ 0 → ⊥) → sections x file ≡ 5
 sections-five x file some =
-    five-five (eqb (length file) (4 * fileSize x)) (eqb (getD (tablePart (blockSize (parameters x)) (x .d) (behind file)) 0 0) (x .s * 2 ^ x .d)) some
+    five-five (eqb (length file) (4 * fileSize x)) (eqb (getD (tablePart (blockSize (parameters x)) (x .d) (behind file)) 0 0) (tableSize x)) some
 
 pub refused-sections : (file : List ℕ) → Begins file → LawfulNumbers (readJob file .numbers)
     → (fileRefusal file ≡ 0 → ⊥) → fileRefusal file ≡ 5

@@ -14,7 +14,7 @@ use Rattle.torus.specs.Bytes.{AreBytes, words, bytes}
 use Rattle.torus.proofs.Lists.{length-tabulate, tabulate-at, tabulate-cong, tabulate-self, tabulate-front, tabulate-below, drop-below}
 use Rattle.torus.proofs.Parts.{length-words, length-bytes, words-bytes, words-word, bytes-words, bytes-are}
 use Rattle.torus.proofs.Joined.{Each, chunk-inside, length-chunk, chunk-joined, length-joined, joined-cong, chunk-below, chunk-append, joined-below, joined-chunks}
-use Rattle.lookup.specs.Numbers.{LawfulNumbers, parameters}
+use Rattle.lookup.specs.Numbers.{LawfulNumbers, parameters, tableSize}
 use Rattle.trgsw.specs.Parameters.{blockSize}
 use Rattle.lookup.specs.Lookup.{selector}
 use Rattle.lookup.specs.Job.{Job}
@@ -163,7 +163,7 @@ module _ (file : List ℕ) (e : fileRefusal file ≡ 0) where
   ok : Passes file
   ok = refusal-held file e
 
-  behind-length : let x = readJob file .numbers in length (behind file) ≡ x .d * (1 + size (readJob file)) + (1 + x .s * 2 ^ x .d)
+  behind-length : let x = readJob file .numbers in length (behind file) ≡ x .d * (1 + size (readJob file)) + (1 + tableSize x)
   behind-length = length-drop 7 (words file) ∙ omega (arith, length-words file, ok .fits .size)
 
   module _ (byte : AreBytes file) where

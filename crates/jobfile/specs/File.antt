@@ -8,7 +8,7 @@ use Rattle.torus.specs.Sum.{joined}
 use Rattle.torus.specs.Bytes.{AreBytes, words, bytes}
 use Rattle.trgsw.specs.Parameters.{sampleSize, blockSize}
 use Rattle.lookup.specs.declared.Numbers.{Numbers}
-use Rattle.lookup.specs.Numbers.{LawfulNumbers, parameters}
+use Rattle.lookup.specs.Numbers.{LawfulNumbers, parameters, tableSize}
 use Rattle.lookup.specs.Job.{Job}
 use Rattle.lookup.specs.Lookup.{selector}
 
@@ -24,7 +24,7 @@ sectionTwo j =
 
 -- "Section three: count s·2^d, then the classes, all s of entry 0 first."
 abbrev pub sectionThree : Job → List ℕ
-sectionThree j = j .numbers .s * 2 ^ j .numbers .d ∷ words (j .classes)
+sectionThree j = tableSize (j .numbers) ∷ words (j .classes)
 
 -- The words of the file, and its bytes.
 abbrev pub fileWords : Job → List ℕ
@@ -49,7 +49,7 @@ pub record Whole (j : Job) : Type 0 where
   pub of-words : (i : ℕ) → getD (fileWords j) i 0 < 2 ^ 32
   pub blocks-length : length (j .blocks) ≡ 4 * (j .numbers .d * blockSize (parameters (j .numbers)))
   pub amplitudes-length : length (j .amplitudes) ≡ 4 * j .numbers .d
-  pub classes-length : length (j .classes) ≡ 4 * (j .numbers .s * 2 ^ j .numbers .d)
+  pub classes-length : length (j .classes) ≡ 4 * tableSize (j .numbers)
   pub blocks-bytes : AreBytes (j .blocks)
   pub amplitudes-bytes : AreBytes (j .amplitudes)
   pub classes-bytes : AreBytes (j .classes)

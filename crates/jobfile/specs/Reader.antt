@@ -3,7 +3,7 @@
 use mathlib.Core.Path.{_≡_}
 use mathlib.Core.Bool.{cond, _&&_}
 use mathlib.Core.List.{List, []}
-use Prim.Native.Nat.{ℕ, _+_, _*_, _%_, _^_, _≤_}
+use Prim.Native.Nat.{ℕ, _+_, _*_, _%_, _≤_}
 use lib.Dec.{eqb, leb}
 use lib.ListN.{length, getD, take, drop}
 use Rattle.torus.specs.Sum.{tabulate, joined, chunk}
@@ -12,7 +12,7 @@ use Rattle.answers.specs.Checks as Check
 use Rattle.answers.specs.Answers.{_orElse_, after}
 use Rattle.answers.specs.declared.Answer.{Answer}
 use Rattle.lookup.specs.declared.Numbers.{Numbers}
-use Rattle.lookup.specs.Numbers.{parameters, numbers}
+use Rattle.lookup.specs.Numbers.{parameters, tableSize, numbers}
 use Rattle.trgsw.specs.Parameters.{blockSize}
 use Rattle.lookup.specs.Job.{Job}
 use Rattle.lookup.specs.Calls.{lookup, lookupSample}
@@ -65,11 +65,11 @@ pub record Begins (file : List ℕ) : Type 0 where
 
 -- The words of a file: a count and five numbers, a count and d selectors, a count and s·2^d classes.
 abbrev pub fileSize : Numbers → ℕ
-fileSize x = 6 + (1 + x .d * (1 + blockSize (parameters x))) + (1 + x .s * 2 ^ x .d)
+fileSize x = 6 + (1 + x .d * (1 + blockSize (parameters x))) + (1 + tableSize x)
 
 -- "then 5 for any other wrong length or section three count"
 abbrev pub tableCount : (x : Numbers) (file : List ℕ) → ℕ
-tableCount x file = cond (eqb (getD (tablePart (blockSize (parameters x)) (x .d) (behind file)) 0 0) (x .s * 2 ^ x .d)) 0 5
+tableCount x file = cond (eqb (getD (tablePart (blockSize (parameters x)) (x .d) (behind file)) 0 0) (tableSize x)) 0 5
 
 abbrev pub sections : (x : Numbers) (file : List ℕ) → ℕ
 sections x file = Check.first (Check.exact (length file) (fileSize x)) (tableCount x file)

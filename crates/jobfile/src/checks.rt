@@ -1,7 +1,7 @@
 // The checks that a file must pass before its lookup begins, and its numbers.
 use lookup::Numbers;
 ghost use mathlib.Core.Path.{_≡_};
-ghost use Prim.Native.Nat.{_+_, _*_, _^_, _≤_};
+ghost use Prim.Native.Nat.{_+_, _*_, _≤_};
 ghost use lib.ListN.{length, getD};
 ghost use Rattle.torus.specs.Bytes.{words};
 ghost use Rattle.lookup.specs.Numbers.{LawfulNumbers};
@@ -55,21 +55,13 @@ pub fn read_numbers(file: &[u8]) -> Numbers
     }
 }
 
-// The number of classes in the table: s for each of 2^d entries.
-fn table_words(x: Numbers) -> u64
-    requires { ⌜ LawfulNumbers x ⌝ }
-    ensures { λ r. ⌜ (r ≡ x .s * 2 ^ x .d) × (r ≤ 1048576) ⌝ }
-{
-    x.s * lookup::entries(x.d)
-}
-
 // 5, for any other length or count of section three.
 fn check_sections(file: &[u8], x: Numbers) -> u32
     requires { ⌜ LawfulNumbers x ⌝ }
     ensures { λ r. ⌜ r ≡ Reader.sections x (now (file .entry)) ⌝ }
 {
     let selectors = x.d * (1 + lookup::block_size(x));
-    let classes = table_words(x);
+    let classes = lookup::table_size(x);
     if file.len() as u64 != 4 * (8 + selectors + classes) {
         return 5;
     }

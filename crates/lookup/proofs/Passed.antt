@@ -14,7 +14,7 @@ use Rattle.answers.specs.Checks as Check
 use Rattle.answers.specs.Answers.{_orElse_, noise}
 use Rattle.answers.proofs.Laws.{first-none, first-met, first-orElse, five-orElse, check-other, first-other, degree-held, degree-met, gadget-held, gadget-met, class-number-held, class-number-met, count-held, count-met, depth-held, depth-met, exact-held, exact-met, amplitudes-held, amplitudes-met, classes-held, classes-met}
 use Rattle.lookup.specs.declared.Numbers.{Numbers}
-use Rattle.lookup.specs.Numbers.{LawfulNumbers, parameters, numbers}
+use Rattle.lookup.specs.Numbers.{LawfulNumbers, parameters, tableSize, numbers}
 use Rattle.trgsw.specs.Parameters.{sampleSize, blockSize}
 use Rattle.lookup.specs.Job.{Job}
 use Rattle.lookup.specs.Calls.{noiseBound, lookup}
@@ -59,7 +59,7 @@ module _ (x : Numbers) where
 pub record Lengths (j : Job) : Type 0 where
   pub blocks-length : length (j .blocks) ≡ 4 * (j .numbers .d * blockSize (parameters (j .numbers)))
   pub amplitudes-length : length (j .amplitudes) ≡ 4 * j .numbers .d
-  pub classes-length : length (j .classes) ≡ 4 * (j .numbers .s * 2 ^ j .numbers .d)
+  pub classes-length : length (j .classes) ≡ 4 * tableSize (j .numbers)
   pub sample-length : length (j .sample) ≡ 4 * sampleSize (parameters (j .numbers))
   pub work-length : length (j .work) ≡ 4 * (sampleSize (parameters (j .numbers)) * (j .numbers .d + 1))
 
@@ -75,7 +75,7 @@ module _ (j : Job) where
       let p = parameters x in
       let blocks = first-none (Check.exact (length (j .blocks)) (x .d * blockSize p)) _ e in
       let amplitudes = first-none (Check.exact (length (j .amplitudes)) (x .d)) _ (blocks .1) in
-      let classes = first-none (Check.exact (length (j .classes)) (x .s * 2 ^ x .d)) _ (amplitudes .1) in
+      let classes = first-none (Check.exact (length (j .classes)) (tableSize x)) _ (amplitudes .1) in
       let written = first-none (Check.exact (length (j .sample)) (sampleSize p)) (Check.exact (length (j .work)) (sampleSize p * (x .d + 1))) (classes .1) in
       record {
         blocks-length = exact-held _ _ (blocks .0);

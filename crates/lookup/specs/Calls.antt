@@ -10,7 +10,7 @@ use Rattle.answers.specs.Checks as Check
 use Rattle.answers.specs.Answers.{_orElse_, number, noise, after}
 use Rattle.answers.specs.declared.Answer.{Answer}
 use Rattle.trgsw.specs.Parameters.{sampleSize, blockSize}
-use Rattle.lookup.specs.Numbers.{parameters}
+use Rattle.lookup.specs.Numbers.{parameters, tableSize}
 use Rattle.lookup.specs.Job.{Job}
 use Rattle.lookup.specs.Lookup.{entrySample, treeSample, charges}
 
@@ -28,7 +28,7 @@ lookup j =
     orElse Check.classNumber (x .M)
     orElse Check.count (x .N) (x .s) orElse Check.depth (x .d)
     orElse Check.exact (length (j .blocks)) (x .d * blockSize p) orElse Check.exact (length (j .amplitudes)) (x .d)
-    orElse Check.exact (length (j .classes)) (x .s * 2 ^ x .d)
+    orElse Check.exact (length (j .classes)) (tableSize x)
     orElse Check.exact (length (j .sample)) (sampleSize p) orElse Check.exact (length (j .work)) (sampleSize p * (x .d + 1))
     orElse Check.amplitudes (words (j .amplitudes))
     orElse Check.classes (x .M) (words (j .classes))

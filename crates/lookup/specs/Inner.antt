@@ -9,7 +9,7 @@ use Rattle.torus.specs.Bytes.{words}
 use Rattle.answers.specs.Checks as Check
 use Rattle.trgsw.specs.Parameters.{sampleSize, blockSize}
 use Rattle.lookup.specs.declared.Numbers.{Numbers}
-use Rattle.lookup.specs.Numbers.{LawfulNumbers, parameters}
+use Rattle.lookup.specs.Numbers.{LawfulNumbers, parameters, tableSize}
 use Rattle.lookup.specs.Job.{Job}
 
 -- Of the first d selectors: amplitudes up to 2^31.
@@ -34,7 +34,7 @@ lengths j =
     let x = j .numbers in
     let p = parameters x in
     Check.first (Check.exact (length (j .blocks)) (x .d * blockSize p)) (Check.first (Check.exact (length (j .amplitudes)) (x .d))
-    (Check.first (Check.exact (length (j .classes)) (x .s * 2 ^ x .d)) (Check.first (Check.exact (length (j .sample)) (sampleSize p))
+    (Check.first (Check.exact (length (j .classes)) (tableSize x)) (Check.first (Check.exact (length (j .sample)) (sampleSize p))
     (Check.exact (length (j .work)) (sampleSize p * (x .d + 1))))))
 
 -- Refusals 6 and 7 of the words in them, or 0.

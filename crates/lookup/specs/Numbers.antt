@@ -1,6 +1,6 @@
 -- The numbers of a lookup, which refusals 1 to 4 judge. They are passed to the call, or stand in the first words of a job file.
 -- Assumes nothing.
-use Prim.Native.Nat.{ℕ, _≤_}
+use Prim.Native.Nat.{ℕ, _*_, _^_, _≤_}
 use Rattle.gadget.specs.Digits.{Lawful}
 use Rattle.ring.specs.Polynomial.{Degree}
 use Rattle.answers.specs.Checks.{ClassNumber}
@@ -19,6 +19,10 @@ weight x = x .N
 -- The parameter set of a lookup.
 abbrev pub parameters : Numbers → Parameters
 parameters x = record { N = x .N; k = masks x; g = x .g; L = x .L; W = weight x }
+
+-- The words of a table: "its classes s·2^d", s for each of 2^d entries.
+abbrev pub tableSize : Numbers → ℕ
+tableSize x = x .s * 2 ^ x .d
 
 -- Numbers that pass refusals 1 to 4.
 pub record LawfulNumbers (x : Numbers) : Type 0 where

@@ -40,10 +40,7 @@ pub fn check_lengths(
         answers::exact(sample.len(), own),
         answers::exact(work.len(), own * (x.d + 1)),
     );
-    let table = answers::first(
-        answers::exact(classes.len(), x.s * crate::entries(x.d)),
-        written,
-    );
+    let table = answers::first(answers::exact(classes.len(), crate::table_size(x)), written);
     let declared = answers::first(answers::exact(amplitudes.len(), x.d), table);
     answers::first(
         answers::exact(blocks.len(), x.d * crate::block_size(x)),

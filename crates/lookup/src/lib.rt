@@ -8,7 +8,7 @@ use trgsw::Parameters;
 ghost use mathlib.Core.Path.{_≡_};
 ghost use Prim.Native.Nat.{_^_, _≤_};
 ghost use Rattle.trgsw.specs.Parameters.{sampleSize, blockSize};
-ghost use Rattle.lookup.specs.Numbers.{LawfulNumbers, parameters};
+ghost use Rattle.lookup.specs.Numbers.{LawfulNumbers, parameters, tableSize};
 ghost use Rattle.lookup.specs.Job.{Job};
 ghost use Rattle.lookup.specs.Calls as Calls;
 
@@ -24,7 +24,7 @@ pub struct Numbers {
 }
 
 // The number of entries: 2^d.
-pub fn entries(d: u64) -> u64
+fn entries(d: u64) -> u64
     requires { ⌜ d ≤ 10 ⌝ }
     ensures { λ r. ⌜ r ≡ 2 ^ d ⌝ }
 {
@@ -64,6 +64,14 @@ pub fn block_size(x: Numbers) -> u64
 {
     let p = parameters(x);
     (p.k as u64 + 1) * x.L * sample_size(x)
+}
+
+// The words of a table.
+pub fn table_size(x: Numbers) -> u64
+    requires { ⌜ LawfulNumbers x ⌝ }
+    ensures { λ r. ⌜ (r ≡ tableSize x) × (r ≤ 1048576) ⌝ }
+{
+    x.s * entries(x.d)
 }
 
 // What lookup answers.

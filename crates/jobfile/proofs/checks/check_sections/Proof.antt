@@ -2,14 +2,14 @@
 use native.Mathlib.Omega.{arith}
 use native.Mathlib.Nat.{mul-le-mul}
 use mathlib.Core.Path.{_≡_, ap, sym, _∙_}
-use Prim.Native.Nat.{_+_, _*_, _^_, _≤_}
+use Prim.Native.Nat.{_+_, _*_, _≤_}
 use lib.ListN.{length, getD}
 use borrow.Author.Needs.{needs}
 use borrow.Author.Tests.{eq-eqb, ne-eqb}
 use Rattle.torus.specs.Bytes.{words}
 use Rattle.answers.specs.Checks as Check
 use Rattle.answers.proofs.Laws.{first-passed, exact-met}
-use Rattle.lookup.specs.Numbers.{parameters}
+use Rattle.lookup.specs.Numbers.{parameters, tableSize}
 use Rattle.trgsw.specs.Parameters.{blockSize}
 use Rattle.jobfile.specs.Reader.{behind, tablePart, fileSize}
 use Rattle.jobfile.proofs.Sections.{count-at}
@@ -27,9 +27,9 @@ selectors : (c : tie.After-block-size) → let x = c .before .before .args .x in
     x .d * (1 + c .block-size .result) ≡ x .d * (1 + blockSize (parameters x))
 selectors c = ap (λ b. c .before .before .args .x .d * (1 + b)) (c .block-size .ensures .0)
 
-size : (c : tie.After-table-words) → let x = c .before .before .before .before .args .x in
-    4 * (8 + x .d * (1 + c .before .before .block-size .result) + c .table-words .result) ≡ 4 * fileSize x
-size c = omega (arith, selectors (c .before .before), c .table-words .ensures .0)
+size : (c : tie.After-table-size) → let x = c .before .before .before .before .args .x in
+    4 * (8 + x .d * (1 + c .before .before .block-size .result) + c .table-size .result) ≡ 4 * fileSize x
+size c = omega (arith, selectors (c .before .before), c .table-size .ensures .0)
 
 -- Past the test the length is exact.
 exact : (c : tie.Else1) → let a = c .before .before .before .before .before .args in
@@ -45,8 +45,8 @@ count c =
     ∙ sym (c .number-at .ensures ∙ ap (λ k. getD (words (a .file .now)) (7 + k) 0) (selectors (c .before .before .before .before)))
 
 classes : (c : tie.After-number-at) → let x = c .before .before .before .before .before .before .args .x in
-    c .before .before .table-words .result ≡ x .s * 2 ^ x .d
-classes c = c .before .before .table-words .ensures .0
+    c .before .before .table-size .result ≡ tableSize x
+classes c = c .before .before .table-size .ensures .0
 
 block-size-requires : tie.Need-block-size-requires
 block-size-requires c κs = c .before .pre
@@ -57,17 +57,17 @@ add-selectors c = search needs
 mul-selectors : tie.Need-mul-selectors
 mul-selectors c = omega (arith, small (c .before))
 
-table-words-requires : tie.Need-table-words-requires
-table-words-requires c κs = c .before .before .before .pre
+table-size-requires : tie.Need-table-size-requires
+table-size-requires c κs = c .before .before .before .pre
 
 add-if1 : tie.Need-add-if1
 add-if1 c = omega (arith, small (c .before .before))
 
 add-if1-2 : tie.Need-add-if1-2
-add-if1-2 c = omega (arith, small (c .before .before), c .table-words .ensures .1)
+add-if1-2 c = omega (arith, small (c .before .before), c .table-size .ensures .1)
 
 mul-if1 : tie.Need-mul-if1
-mul-if1 c = omega (arith, small (c .before .before), c .table-words .ensures .1)
+mul-if1 c = omega (arith, small (c .before .before), c .table-size .ensures .1)
 
 returns : tie.Need-returns
 returns c =
@@ -97,7 +97,7 @@ check-sections-spec =
     block-size-requires
     add-selectors
     mul-selectors
-    table-words-requires
+    table-size-requires
     add-if1
     add-if1-2
     mul-if1

@@ -1,24 +1,20 @@
 -- `lookup::checks::check_lengths` meets its contract. Assumes nothing.
 use native.Mathlib.Omega.{arith}
 use mathlib.Core.Path.{ap, ap₂, _∙_}
-use Prim.Native.Nat.{_+_, _*_, _^_, _≤_}
+use Prim.Native.Nat.{_+_, _*_, _≤_}
 use native.Mathlib.Nat.{mul-le-mul}
 use lib.ListN.{length}
-use lib.Pow.{pow-mono}
 use Rattle.answers.specs.Checks as Check
 use borrow.Author.Needs.{needs}
 use Rattle.lookup.proofs.checks.check_lengths.Statement.{statement}
 use Rattle.lookup.proofs.checks.check_lengths.Tie as tie
 
--- Where the function starts, seen from some of its calls.
+-- Where the function starts, seen from two of its calls.
 abbrev start : tie.After-sample-size → tie.Start
 start c = c .before .before .before .before .before .before
 
-abbrev start-2 : tie.After-entries → tie.Start
-start-2 c = start (c .before .before .before .before .before)
-
-abbrev start-3 : tie.After-block-size → tie.Start
-start-3 c = start-2 (c .before .before .before .before .before .before)
+abbrev start-2 : tie.After-block-size → tie.Start
+start-2 c = start (c .before .before .before .before .before .before .before .before .before .before)
 
 sample-size-requires : tie.Need-sample-size-requires
 sample-size-requires c κs = search needs
@@ -40,16 +36,8 @@ exact-requires-2 c κs = search needs
 first-requires : tie.Need-first-requires
 first-requires c κs = search needs
 
-entries-requires : tie.Need-entries-requires
-entries-requires c κs = start (c .before .before .before .before) .pre .depth
-
-mul-exact-2 : tie.Need-mul-exact-2
-mul-exact-2 c =
-    let s = start-2 (c .before) in
-    let most : 2 ^ s .args .x .d ≤ 2 ^ 10 = pow-mono {i = s .args .x .d} {j = 10} (s .pre .depth) in
-    let count : c .before .entries .result ≤ 1024 = omega (arith, c .before .entries .ensures) in
-    let packed : s .args .x .s ≤ 1024 = omega (arith, s .pre .most, s .pre .degree .most) in
-    record { fits = omega (arith, mul-le-mul packed count) }
+table-size-requires : tie.Need-table-size-requires
+table-size-requires c κs = search needs
 
 exact-requires-3 : tie.Need-exact-requires-3
 exact-requires-3 c κs = search needs
@@ -66,8 +54,8 @@ first-requires-3 c κs = search needs
 block-size-requires : tie.Need-block-size-requires
 block-size-requires c κs = search needs
 
-mul-exact-3 : tie.Need-mul-exact-3
-mul-exact-3 c = record { fits = omega (arith, mul-le-mul (start-3 (c .before) .pre .depth) (c .before .block-size .ensures .1)) }
+mul-exact-2 : tie.Need-mul-exact-2
+mul-exact-2 c = record { fits = omega (arith, mul-le-mul (start-2 (c .before) .pre .depth) (c .before .block-size .ensures .1)) }
 
 exact-requires-5 : tie.Need-exact-requires-5
 exact-requires-5 c κs = search needs
@@ -78,10 +66,10 @@ first-requires-4 c κs = search needs
 returns : tie.Need-returns
 returns c =
     let blocks = c .before .before .before in
-    let a = start-3 blocks .args in
+    let a = start-2 blocks .args in
     let x = a .x in
     let table = blocks .before .before .before in
-    let written = table .before .before .before .before in
+    let written = table .before .before .before in
     let own = written .before .before .before .before .sample-size .ensures .0 in
     c .first4 .ensures
     ∙ ap₂ Check.first (c .before .exact5 .ensures ∙ ap (λ b. Check.exact (length (a .blocks .now)) (x .d * b)) (blocks .block-size .ensures .0))
@@ -89,7 +77,7 @@ returns c =
     ∙ ap₂ Check.first (blocks .before .before .exact4 .ensures)
     (table .first2 .ensures
     ∙ ap₂ Check.first
-    (table .before .exact3 .ensures ∙ ap (λ e. Check.exact (length (a .classes .now)) (x .s * e)) (table .before .before .before .entries .ensures))
+    (table .before .exact3 .ensures ∙ ap (λ n. Check.exact (length (a .classes .now)) n) (table .before .before .table-size .ensures .0))
     (written .first .ensures
     ∙ ap₂ Check.first
     (written .before .before .before .exact .ensures ∙ ap (λ n. Check.exact (length (a .sample .now)) n) own)
@@ -105,14 +93,13 @@ check-lengths-spec =
     mul-exact
     exact-requires-2
     first-requires
-    entries-requires
-    mul-exact-2
+    table-size-requires
     exact-requires-3
     first-requires-2
     exact-requires-4
     first-requires-3
     block-size-requires
-    mul-exact-3
+    mul-exact-2
     exact-requires-5
     first-requires-4
     returns)

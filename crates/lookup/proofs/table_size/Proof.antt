@@ -1,12 +1,13 @@
--- `jobfile::checks::table_words` meets its contract. Assumes nothing.
+-- `lookup::table_size` meets its contract. Assumes nothing.
 use native.Mathlib.Omega.{arith}
 use native.Mathlib.Nat.{mul-le-mul}
 use mathlib.Core.Path.{ap}
 use Prim.Native.Nat.{_*_, _^_, _≤_}
 use lib.Pow.{pow-mono}
-use Rattle.jobfile.proofs.checks.table_words.Statement.{statement}
-use Rattle.jobfile.proofs.checks.table_words.Tie as tie
+use Rattle.lookup.proofs.table_size.Statement.{statement}
+use Rattle.lookup.proofs.table_size.Tie as tie
 
+-- A table has at most 2^20 words.
 small : (c : tie.After-entries) → c .before .args .x .s * c .entries .result ≤ 1048576
 small c =
     let d = c .before .args .x .d in
@@ -24,5 +25,5 @@ mul-result c = omega (arith, small (c .before))
 returns : tie.Need-returns
 returns c = (ap (λ e. c .before .before .args .x .s * e) (c .before .entries .ensures), small (c .before))
 
-pub table-words-spec : {M : Type 1} → statement M
-table-words-spec = tie.close (tie.spec entries-requires mul-result returns)
+pub table-size-spec : {M : Type 1} → statement M
+table-size-spec = tie.close (tie.spec entries-requires mul-result returns)
