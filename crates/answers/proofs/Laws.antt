@@ -162,11 +162,11 @@ count-held N s e =
 pub count-met : (N s : ℕ) → 1 ≤ s → s ≤ N → count N s ≡ 0
 count-met N s some most = simp (le-leb 1 s some, le-leb s N most)
 
-pub depth-held : (d : ℕ) → depth d ≡ 0 → d ≤ 10
-depth-held d e = leb-true d 10 (held (leb d 10) 0 3 e .0)
+pub depth-held : (most d : ℕ) → depth most d ≡ 0 → d ≤ most
+depth-held most d e = leb-true d most (held (leb d most) 0 3 e .0)
 
-pub depth-met : (d : ℕ) → d ≤ 10 → depth d ≡ 0
-depth-met d h = simp (le-leb d 10 h)
+pub depth-met : (most d : ℕ) → d ≤ most → depth most d ≡ 0
+depth-met most d h = simp (le-leb d most h)
 
 pub position-held : (N p : ℕ) → position N p ≡ 0 → p < N
 position-held N p e = ltb-true p N (held (ltb p N) 0 3 e .0)

@@ -37,12 +37,12 @@ gadget g L = cond (isLawful g L) 0 2
 abbrev pub classNumber : ℕ → ℕ
 classNumber M = cond (isClassNumber M) 0 3
 
--- 4: "s is 0 or above N; d above 10; position p not below N"
-abbrev pub count : ℕ → ℕ → ℕ
-count N s = cond (leb 1 s && leb s N) 0 4
+-- 4: "s is 0 or above N; d above 10; position p not below N". The most classes and the most selectors are the call's.
+abbrev pub count : (most s : ℕ) → ℕ
+count most s = cond (leb 1 s && leb s most) 0 4
 
-abbrev pub depth : ℕ → ℕ
-depth d = cond (leb d 10) 0 4
+abbrev pub depth : (most d : ℕ) → ℕ
+depth most d = cond (leb d most) 0 4
 
 abbrev pub position : ℕ → ℕ → ℕ
 position N p = cond (ltb p N) 0 4

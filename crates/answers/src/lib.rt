@@ -137,21 +137,21 @@ pub fn class_number(m: u64) -> u32
     unless(is_class_number(m), 3)
 }
 
-// 4: the count s of classes in a sample of degree n.
-pub fn count(n: u64, s: u64) -> u32
-    ensures { λ r. ⌜ r ≡ Checks.count n s ⌝ }
+// 4: the number of classes in an entry.
+pub fn count(most: u64, s: u64) -> u32
+    ensures { λ r. ⌜ r ≡ Checks.count most s ⌝ }
 {
     if s < 1 {
         return 4;
     }
-    unless(s <= n, 4)
+    unless(s <= most, 4)
 }
 
 // 4: the number of selectors.
-pub fn depth(d: u64) -> u32
-    ensures { λ r. ⌜ r ≡ Checks.depth d ⌝ }
+pub fn depth(most: u64, d: u64) -> u32
+    ensures { λ r. ⌜ r ≡ Checks.depth most d ⌝ }
 {
-    unless(d <= 10, 4)
+    unless(d <= most, 4)
 }
 
 // 4: the position of a coefficient.

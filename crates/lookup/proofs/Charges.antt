@@ -36,7 +36,7 @@ module _ (p : Parameters) (amplitudes : List ℕ) where
   up-one d e rest (inl same) = rw same (omega (arith, charges-more (suc d) d (sym (add-one d))))
   up-one d e rest (inr low) = omega (arith, charges-more (suc d) d (sym (add-one d)), rest low)
 
-  charges-up : (d e : ℕ) → e < d → charges p amplitudes e + charge p (getD amplitudes e 0) ≤ charges p amplitudes d
+  pub charges-up : (d e : ℕ) → e < d → charges p amplitudes e + charge p (getD amplitudes e 0) ≤ charges p amplitudes d
   charges-up zero e l = absurd (omega arith)
   charges-up (suc d) e l = up-one d e (λ low. charges-up d e low) (eq-or-lt-of-le (le-of-suc-le-suc l))
 
@@ -81,7 +81,7 @@ module _ (p : Parameters) (amplitudes : List ℕ) (bound d e : ℕ) where
   pub branch-bound : (begun : ℕ) → begun ≡ bound → e < d → bound + charges p amplitudes d < 2 ^ 64 → begun + charges p amplitudes e < 2 ^ 64
   branch-bound begun same l fits = omega (arith, charges-up p amplitudes d e l)
 
-  -- nor does the charge on top of it.
-  pub join-bound : (begun raised : ℕ) → raised ≡ begun + charges p amplitudes e → begun ≡ bound
+  -- nor does the charge on top of it. The charges of the selectors that rotate, the first r, are not in the ledger yet.
+  pub join-bound : (r begun raised : ℕ) → raised + charges p amplitudes r ≡ begun + charges p amplitudes e → begun ≡ bound
       → e < d → bound + charges p amplitudes d < 2 ^ 64 → raised + charge p (getD amplitudes e 0) < 2 ^ 64
-  join-bound begun raised h same l fits = omega (arith, charges-up p amplitudes d e l)
+  join-bound r begun raised h same l fits = omega (arith, charges-up p amplitudes d e l)

@@ -14,7 +14,7 @@ use Rattle.torus.specs.Word.{magnitude, distance}
 use Rattle.torus.specs.Bytes.{words, bytes}
 use Rattle.torus.proofs.Parts.{bytes-are}
 use Rattle.gadget.specs.Digits.{precision, rounded, digit}
-use Rattle.ring.specs.Polynomial.{product}
+use Rattle.ring.specs.Polynomial.{product, rotated}
 use Rattle.answers.specs.Answers.{number, bound, gates, _orElse_, greatestMagnitude, after}
 use Rattle.answers.specs.Checks.{allBelow}
 use Rattle.trlwe.specs.Classes.{encode, message}
@@ -28,10 +28,11 @@ use Rattle.trgsw.specs.Calls.{encryptSelector, encryptSelectorBlock}
 use Rattle.trgsw.proofs.CallNoise.{selector-holds}
 use Rattle.trgsw.proofs.Instance.{at-0, sampleRoom, keyJ, blockJ, key-J, holds-J, masksE, blockRoom, blockE, holds-E}
 use Rattle.lookup.specs.Tree.{tree, entryNumber}
+use Rattle.lookup.specs.declared.Packing.the-variants.{Horizontal}
 use Rattle.lookup.specs.declared.Numbers.{Numbers}
-use Rattle.lookup.specs.Numbers.{masks, weight, parameters}
+use Rattle.lookup.specs.Numbers.{masks, weight, parameters, rotations}
 use Rattle.trgsw.specs.Parameters.{charge}
-use Rattle.lookup.specs.Lookup.{selector, treeSample, charges}
+use Rattle.lookup.specs.Lookup.{selector, treeSample, blindRotation, lookedUp, charges}
 use Rattle.lookup.specs.Job.{Job, declaring}
 use Rattle.lookup.specs.Calls.{lookup, lookupSample}
 use Rattle.lookup.proofs.Accuracy.{accuracy}
@@ -53,28 +54,28 @@ abbrev pub workJ : List ℕ
 workJ = bytes (0 ∷ 0 ∷ 0 ∷ 0 ∷ [])
 
 abbrev pub numbersJ : Numbers
-numbersJ = record { N = 1; g = 16; L = 2; M = 16; s = 1; d = 1 }
+numbersJ = record { packing = Horizontal; N = 1; g = 16; L = 2; M = 16; s = 1; d = 1 }
 
 abbrev pub jobJ : Job
 jobJ = record { numbers = numbersJ; blocks = blockJ; amplitudes = amplitudesJ; classes = classesJ; sample = sampleRoom; work = workJ }
 
 -- The lookup is accepted, with the document's bound and gates.
 pub job-accepted : number (lookup jobJ) ≡ 0
-unfolding masks weight lookup _orElse_ charges sum External.charge precision words bytes ones allBelow
+unfolding masks weight rotations lookup _orElse_ charges sum External.charge precision words bytes ones allBelow
 job-accepted = refl
 
 pub job-bound : bound (lookup jobJ) ≡ 917504
-unfolding masks weight lookup _orElse_ charges sum External.charge precision words bytes ones allBelow
+unfolding masks weight rotations lookup _orElse_ charges sum External.charge precision words bytes ones allBelow
 job-bound = refl
 
 pub job-gates : gates (lookup jobJ) ≡ 1
-unfolding masks weight lookup _orElse_ charges sum External.charge precision words bytes ones allBelow
+unfolding masks weight rotations lookup _orElse_ charges sum External.charge precision words bytes ones allBelow
 job-gates = refl
 
 -- "mask 0 0", "body 0 2147483648"
 pub job-result : words (lookupSample jobJ) ≡ 0 ∷ 2147483648 ∷ []
-unfolding lookupSample masks weight lookup _orElse_ after charges sum External.charge precision words bytes ones allBelow
-    treeSample tree trivial message encode cmuxSample polynomials joined tabulate external difference product digit rounded
+unfolding lookupSample masks weight rotations lookup _orElse_ after charges sum External.charge precision words bytes ones allBelow
+    lookedUp blindRotation treeSample tree trivial message encode cmuxSample polynomials joined tabulate external difference product digit rounded
 job-result = refl
 
 -- The block holds 1 within the amplitude, as the rule's premise has it.
@@ -87,7 +88,7 @@ pub job-rule :
     (distance (phase 1 1 (words keyJ) (words (lookupSample jobJ)) 0) (8 * 2 ^ 28) ≤ 917504)
     × (number (decryptClasses 1 16 1 keyJ (lookupSample jobJ) classRoom) ≡ 0)
     × (decryptClassesClasses 1 16 1 keyJ (lookupSample jobJ) classRoom ≡ bytes (8 ∷ []))
-unfolding masks words bytes entryNumber sum message encode
+unfolding masks rotations words bytes entryNumber sum message encode rotated
 job-rule =
     let rule = accuracy jobJ job-accepted (λ i. 1) keyJ classRoom
     (record { key-fits = key-J; bit = λ i l. le-refl 1; holds = job-holds; out-length = refl }) in (
@@ -138,24 +139,24 @@ abbrev pub workFE : List ℕ
 workFE = bytes (0 ∷ 0 ∷ 0 ∷ 0 ∷ 0 ∷ 0 ∷ [])
 
 abbrev pub numbersFE : Numbers
-numbersFE = record { N = 1; g = 16; L = 2; M = 16; s = 1; d = 2 }
+numbersFE = record { packing = Horizontal; N = 1; g = 16; L = 2; M = 16; s = 1; d = 2 }
 
 abbrev pub jobFE : Job
 jobFE = record { numbers = numbersFE; blocks = blocksFE; amplitudes = amplitudesFE; classes = classesFE; sample = sampleRoom; work = workFE }
 
 -- The lookup is accepted, with the sum of two charges and three gates.
 pub accepted-FE : number (lookup jobFE) ≡ 0
-unfolding encryptSelectorBlock encryptSelector masks weight lookup _orElse_ after charges External.charge precision words bytes ones allBelow
+unfolding encryptSelectorBlock encryptSelector masks weight rotations lookup _orElse_ after charges External.charge precision words bytes ones allBelow
     encryptedBlock encryptedRow encryption body joined tabulate masked sum product
 accepted-FE = refl
 
 pub bound-FE : bound (lookup jobFE) ≡ 786432
-unfolding encryptSelectorBlock encryptSelector masks weight lookup _orElse_ after charges External.charge precision words bytes ones allBelow
+unfolding encryptSelectorBlock encryptSelector masks weight rotations lookup _orElse_ after charges External.charge precision words bytes ones allBelow
     encryptedBlock encryptedRow encryption body joined tabulate masked sum product
 bound-FE = refl
 
 pub gates-FE : gates (lookup jobFE) ≡ 3
-unfolding encryptSelectorBlock encryptSelector masks weight lookup _orElse_ after charges External.charge precision words bytes ones allBelow
+unfolding encryptSelectorBlock encryptSelector masks weight rotations lookup _orElse_ after charges External.charge precision words bytes ones allBelow
     encryptedBlock encryptedRow encryption body joined tabulate masked sum product
 gates-FE = refl
 
@@ -187,7 +188,7 @@ pub rule-FE :
     (distance (phase 1 1 (words keyJ) (words (lookupSample jobFE)) 0) (12 * 2 ^ 28) ≤ 786432)
     × (number (decryptClasses 1 16 1 keyJ (lookupSample jobFE) classRoom) ≡ 0)
     × (decryptClassesClasses 1 16 1 keyJ (lookupSample jobFE) classRoom ≡ bytes (12 ∷ []))
-unfolding masks words bytes entryNumber sum message encode
+unfolding masks rotations words bytes entryNumber sum message encode rotated
 rule-FE =
     let rule = accuracy jobFE accepted-FE bitsFE keyJ classRoom
     (record { key-fits = key-J; bit = bits-FE; holds = blocks-FE; out-length = refl }) in (
@@ -200,16 +201,16 @@ rule-FE =
 
 -- Its mask is not 0, and neither is its noise.
 pub result-FE : words (lookupSample jobFE) ≡ 2654608328 ∷ 1580875556 ∷ []
-unfolding encryptSelectorBlock encryptSelector lookupSample masks weight lookup _orElse_ after charges External.charge precision words bytes ones allBelow
+unfolding encryptSelectorBlock encryptSelector lookupSample masks weight rotations lookup _orElse_ after charges External.charge precision words bytes ones allBelow
     encryptedBlock encryptedRow encryption body joined tabulate masked sum product
-    treeSample tree trivial message encode cmuxSample polynomials external difference digit rounded
+    lookedUp blindRotation treeSample tree trivial message encode cmuxSample polynomials external difference digit rounded
 result-FE = refl
 
 pub noise-FE :
     distance (phase 1 1 (words keyJ) (words (lookupSample jobFE)) 0) (12 * 2 ^ 28) ≡ 9052
-unfolding encryptSelectorBlock encryptSelector lookupSample masks weight lookup _orElse_ after charges External.charge precision words bytes ones allBelow
+unfolding encryptSelectorBlock encryptSelector lookupSample masks weight rotations lookup _orElse_ after charges External.charge precision words bytes ones allBelow
     encryptedBlock encryptedRow encryption body joined tabulate masked sum product
-    treeSample tree trivial message encode cmuxSample polynomials external difference digit rounded phase magnitude
+    lookedUp blindRotation treeSample tree trivial message encode cmuxSample polynomials external difference digit rounded phase magnitude
 noise-FE = refl
 
 -- ---- at the limit
@@ -224,20 +225,20 @@ large = record { N = 1024; k = 1; g = 8; L = 2; W = 1024 }
 
 -- "Job J with amplitude 1023 has bound 134086656, accepted".
 pub accepted-1023 : number (lookup (limitJ 1023)) ≡ 0
-unfolding masks weight lookup _orElse_ charges sum External.charge precision words bytes ones allBelow
+unfolding masks weight rotations lookup _orElse_ charges sum External.charge precision words bytes ones allBelow
 accepted-1023 = refl
 
 pub bound-1023 : bound (lookup (limitJ 1023)) ≡ 134086656
-unfolding masks weight lookup _orElse_ charges sum External.charge precision words bytes ones allBelow
+unfolding masks weight rotations lookup _orElse_ charges sum External.charge precision words bytes ones allBelow
 bound-1023 = refl
 
 -- "with 1024, 134217728, answer 9"
 pub refused-1024 : number (lookup (limitJ 1024)) ≡ 9
-unfolding masks weight lookup _orElse_ charges sum External.charge precision words bytes ones allBelow
+unfolding masks weight rotations lookup _orElse_ charges sum External.charge precision words bytes ones allBelow
 refused-1024 = refl
 
 pub bound-1024 : bound (lookup (limitJ 1024)) ≡ 134217728
-unfolding masks weight lookup _orElse_ charges sum External.charge precision words bytes ones allBelow
+unfolding masks weight rotations lookup _orElse_ charges sum External.charge precision words bytes ones allBelow
 bound-1024 = refl
 
 -- "With N = 1,024, g = 8, L = 2, amplitude 1 and M = 16 a charge is 34111488".

@@ -2,8 +2,11 @@ pub mod Sizes
 pub mod Passed
 pub mod Trees
 pub mod Noise
+pub mod BlindRotation
+pub mod LookedUp
 pub mod Accepted
-pub mod PublicEntries
+pub mod Packings
+pub mod Tables
 pub mod Accuracy
 pub mod EndToEnd
 pub mod Instance

@@ -14,7 +14,7 @@ use Rattle.torus.specs.Word.{magnitude, distance}
 use Rattle.torus.specs.Bytes.{words, bytes}
 use Rattle.torus.proofs.Parts.{bytes-are}
 use Rattle.gadget.specs.Digits.{precision, rounded, digit}
-use Rattle.ring.specs.Polynomial.{product}
+use Rattle.ring.specs.Polynomial.{product, rotated}
 use Rattle.answers.specs.Answers.{number, bound, gates, _orElse_, greatestMagnitude, after}
 use Rattle.answers.specs.Checks.{allBelow}
 use Rattle.trlwe.specs.Classes.{encode, message}
@@ -25,9 +25,10 @@ use Rattle.trgsw.specs.External.{external, difference, cmuxSample}
 use Rattle.trgsw.specs.External as External
 use Rattle.trgsw.specs.Calls.{encryptSelector, encryptSelectorBlock}
 use Rattle.lookup.specs.Tree.{tree, entryNumber}
+use Rattle.lookup.specs.declared.Packing.the-variants.{Horizontal}
 use Rattle.lookup.specs.declared.Numbers.{Numbers}
-use Rattle.lookup.specs.Numbers.{masks, weight}
-use Rattle.lookup.specs.Lookup.{treeSample, charges}
+use Rattle.lookup.specs.Numbers.{masks, weight, rotations}
+use Rattle.lookup.specs.Lookup.{treeSample, blindRotation, lookedUp, charges}
 use Rattle.lookup.specs.Job.{Job}
 use Rattle.lookup.specs.Calls.{lookup, lookupSample}
 use Rattle.lookup.specs.Rule.{Made, Encrypted}
@@ -114,24 +115,24 @@ abbrev pub classRoomP : List ℕ
 classRoomP = bytes (0 ∷ 0 ∷ [])
 
 abbrev pub numbersP : Numbers
-numbersP = record { N = 2; g = 8; L = 2; M = 16; s = 2; d = 2 }
+numbersP = record { packing = Horizontal; N = 2; g = 8; L = 2; M = 16; s = 2; d = 2 }
 
 abbrev pub jobP : Job
 jobP = record { numbers = numbersP; blocks = blocksP; amplitudes = amplitudesP; classes = classesP; sample = sampleRoomP; work = workP }
 
 -- The lookup is accepted, with the sum of two charges and three gates. A charge is 1024 times the amplitude, and 3 times 2^15.
 pub accepted-P : number (lookup jobP) ≡ 0
-unfolding encryptSelectorBlock encryptSelector masks weight lookup _orElse_ after charges External.charge precision words bytes ones allBelow
+unfolding encryptSelectorBlock encryptSelector masks weight rotations lookup _orElse_ after charges External.charge precision words bytes ones allBelow
     encryptedBlock encryptedRow encryption body joined tabulate masked sum product
 accepted-P = refl
 
 pub bound-P : bound (lookup jobP) ≡ 205824
-unfolding encryptSelectorBlock encryptSelector masks weight lookup _orElse_ after charges External.charge precision words bytes ones allBelow
+unfolding encryptSelectorBlock encryptSelector masks weight rotations lookup _orElse_ after charges External.charge precision words bytes ones allBelow
     encryptedBlock encryptedRow encryption body joined tabulate masked sum product
 bound-P = refl
 
 pub gates-P : gates (lookup jobP) ≡ 3
-unfolding encryptSelectorBlock encryptSelector masks weight lookup _orElse_ after charges External.charge precision words bytes ones allBelow
+unfolding encryptSelectorBlock encryptSelector masks weight rotations lookup _orElse_ after charges External.charge precision words bytes ones allBelow
     encryptedBlock encryptedRow encryption body joined tabulate masked sum product
 gates-P = refl
 
@@ -189,7 +190,7 @@ pub rule-P :
     × (distance (phase 2 1 (words keyP) (words resultP) 1) (15 * 2 ^ 28) ≤ 205824)
     × (number (decryptClasses 2 16 2 keyP resultP classRoomP) ≡ 0)
     × (decryptClassesClasses 2 16 2 keyP resultP classRoomP ≡ bytes (8 ∷ 15 ∷ []))
-unfolding masks words bytes entryNumber sum message encode
+unfolding masks rotations words bytes entryNumber sum message encode rotated
 rule-P =
     let rule = encrypted-lookup jobP bitsFE masksP errorsP (λ i. blockRoomP) keyP classRoomP accepted-P encrypted-P in (
       subst (λ b. distance (phase 2 1 (words keyP) (words resultP) 0) (8 * 2 ^ 28) ≤ b) bound-P (rule .within 0 (lit< tt)),
@@ -200,15 +201,15 @@ rule-P =
 
 -- Its mask is not 0, and neither is its noise. In coefficient 0 it is above 9216, what the amplitudes are charged: there is rounding in it.
 pub result-P : words resultP ≡ 2773553129 ∷ 3796587218 ∷ 1124383607 ∷ 2006737680 ∷ []
-unfolding encryptSelectorBlock encryptSelector lookupSample masks weight lookup _orElse_ after charges External.charge precision words bytes ones allBelow
+unfolding encryptSelectorBlock encryptSelector lookupSample masks weight rotations lookup _orElse_ after charges External.charge precision words bytes ones allBelow
     encryptedBlock encryptedRow encryption body joined tabulate masked sum product
-    treeSample tree trivial message encode cmuxSample polynomials external difference digit rounded
+    lookedUp blindRotation treeSample tree trivial message encode cmuxSample polynomials external difference digit rounded
 result-P = refl
 
 pub noise-P :
     (distance (phase 2 1 (words keyP) (words resultP) 0) (8 * 2 ^ 28) ≡ 65952)
     × (distance (phase 2 1 (words keyP) (words resultP) 1) (15 * 2 ^ 28) ≡ 85)
-unfolding encryptSelectorBlock encryptSelector lookupSample masks weight lookup _orElse_ after charges External.charge precision words bytes ones allBelow
+unfolding encryptSelectorBlock encryptSelector lookupSample masks weight rotations lookup _orElse_ after charges External.charge precision words bytes ones allBelow
     encryptedBlock encryptedRow encryption body joined tabulate masked sum product
-    treeSample tree trivial message encode cmuxSample polynomials external difference digit rounded phase magnitude
+    lookedUp blindRotation treeSample tree trivial message encode cmuxSample polynomials external difference digit rounded phase magnitude
 noise-P = (refl, refl)

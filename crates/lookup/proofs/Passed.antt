@@ -14,7 +14,7 @@ use Rattle.answers.specs.Checks as Check
 use Rattle.answers.specs.Answers.{_orElse_, noise}
 use Rattle.answers.proofs.Laws.{first-none, first-met, first-orElse, five-orElse, check-other, first-other, degree-held, degree-met, gadget-held, gadget-met, class-number-held, class-number-met, count-held, count-met, depth-held, depth-met, exact-held, exact-met, amplitudes-held, amplitudes-met, classes-held, classes-met}
 use Rattle.lookup.specs.declared.Numbers.{Numbers}
-use Rattle.lookup.specs.Numbers.{LawfulNumbers, parameters, tableSize, numbers}
+use Rattle.lookup.specs.Numbers.{LawfulNumbers, parameters, tableSize, gateCount, mostClasses, mostSelectors, numbers}
 use Rattle.trgsw.specs.Parameters.{sampleSize, blockSize}
 use Rattle.lookup.specs.Job.{Job}
 use Rattle.lookup.specs.Calls.{noiseBound, lookup}
@@ -23,26 +23,33 @@ use Rattle.lookup.specs.Inner.{lengths, contents}
 -- ---- the numbers
 
 module _ (x : Numbers) where
+  -- The most classes of an entry and the most selectors, in its packing.
+  abbrev classes : ℕ
+  classes = mostClasses (x .packing) (x .N)
+
+  abbrev selectors : ℕ
+  selectors = mostSelectors (x .packing)
+
   pub numbers-held : numbers x ≡ 0 → LawfulNumbers x
   numbers-held e =
       let degree = first-none (Check.degree (x .N)) _ e in
       let gadget = first-none (Check.gadget (x .g) (x .L)) _ (degree .1) in
       let class-number = first-none (Check.classNumber (x .M)) _ (gadget .1) in
-      let sizes = first-none (Check.count (x .N) (x .s)) (Check.depth (x .d)) (class-number .1) in
+      let sizes = first-none (Check.count classes (x .s)) (Check.depth selectors (x .d)) (class-number .1) in
       record {
         degree = degree-held (x .N) (degree .0);
         gadget = gadget-held (x .g) (x .L) (gadget .0);
         class-number = class-number-held (x .M) (class-number .0);
-        some = count-held (x .N) (x .s) (sizes .0) .0;
-        most = count-held (x .N) (x .s) (sizes .0) .1;
-        depth = depth-held (x .d) (sizes .1);
+        some = count-held classes (x .s) (sizes .0) .0;
+        most = count-held classes (x .s) (sizes .0) .1;
+        depth = depth-held selectors (x .d) (sizes .1);
       }
 
   pub numbers-met : LawfulNumbers x → numbers x ≡ 0
   numbers-met ok =
       first-met _ _ (degree-met (x .N) (ok .degree)) (first-met _ _ (gadget-met (x .g) (x .L) (ok .gadget))
       (first-met _ _ (class-number-met (x .M) (ok .class-number))
-      (first-met _ _ (count-met (x .N) (x .s) (ok .some) (ok .most)) (depth-met (x .d) (ok .depth)))))
+      (first-met _ _ (count-met classes (x .s) (ok .some) (ok .most)) (depth-met selectors (x .d) (ok .depth)))))
 
   -- None of these checks gives 9.
   pub numbers-other : numbers x ≡ 9 → ⊥
@@ -50,9 +57,9 @@ module _ (x : Numbers) where
       first-other (Check.degree (x .N)) _ 9 (check-other (isDegree (x .N)) 1 9 (omega arith) (λ e. omega arith))
       (first-other (Check.gadget (x .g) (x .L)) _ 9 (check-other (isLawful (x .g) (x .L)) 2 9 (omega arith) (λ e. omega arith))
       (first-other (Check.classNumber (x .M)) _ 9 (check-other (Check.isClassNumber (x .M)) 3 9 (omega arith) (λ e. omega arith))
-      (first-other (Check.count (x .N) (x .s)) (Check.depth (x .d)) 9
-      (check-other (leb 1 (x .s) && leb (x .s) (x .N)) 4 9 (omega arith) (λ e. omega arith))
-      (check-other (leb (x .d) 10) 4 9 (omega arith) (λ e. omega arith)))))
+      (first-other (Check.count classes (x .s)) (Check.depth selectors (x .d)) 9
+      (check-other (leb 1 (x .s) && leb (x .s) classes) 4 9 (omega arith) (λ e. omega arith))
+      (check-other (leb (x .d) selectors) 4 9 (omega arith) (λ e. omega arith)))))
 
 -- ---- the lengths of the slices
 
@@ -122,10 +129,10 @@ module _ (j : Job) where
 
 -- The rows of the call's answer, taken together as the code takes them.
 pub lookup-checks : (j : Job) → let x = j .numbers in
-    (numbers x orElse lengths j orElse contents j orElse noise (x .M) (noiseBound j) (2 ^ x .d - 1)) ≡ lookup j
+    (numbers x orElse lengths j orElse contents j orElse noise (x .M) (noiseBound j) (gateCount x)) ≡ lookup j
 unfolding lookup
 lookup-checks j =
     let x = j .numbers in
     ap (λ a. numbers x orElse lengths j orElse a) (first-orElse (Check.amplitudes (words (j .amplitudes))) (Check.classes (x .M) (words (j .classes))) _)
     ∙ ap (λ a. numbers x orElse a) (five-orElse _ _ _ _ _ _)
-    ∙ five-orElse (Check.degree (x .N)) (Check.gadget (x .g) (x .L)) (Check.classNumber (x .M)) (Check.count (x .N) (x .s)) (Check.depth (x .d)) _
+    ∙ five-orElse (Check.degree (x .N)) (Check.gadget (x .g) (x .L)) (Check.classNumber (x .M)) (Check.count (classes x) (x .s)) (Check.depth (selectors x) (x .d)) _

@@ -11,13 +11,13 @@ use lib.Pow.{pow-pos, pow-mono}
 use lib.Seq.{take-at, length-take-le}
 use Rattle.torus.specs.Bytes.{words}
 use Rattle.torus.proofs.Joined.{chunk-inside}
-use Rattle.torus.proofs.Parts.{length-words, words-take}
+use Rattle.torus.proofs.Parts.{length-words, words-take, front-back}
 use Rattle.trgsw.specs.declared.Parameters.{Parameters}
 use Rattle.lookup.specs.declared.Numbers.{Numbers}
-use Rattle.lookup.specs.Numbers.{parameters}
+use Rattle.lookup.specs.Numbers.{parameters, rotations, sampleClasses}
 use Rattle.trgsw.specs.Parameters.{sampleSize, blockSize, cmuxSample}
 use Rattle.lookup.specs.Lookup.{selector, treeSample}
-use Rattle.lookup.specs.Inner.{Run}
+use Rattle.lookup.specs.Inner.{Leaf, Run}
 use Rattle.lookup.proofs.Trees.{tree-none, tree-more}
 
 -- ---- levels
@@ -42,11 +42,11 @@ module _ (x : Numbers) (d e t : ℕ) (sample work blocks : ℕ) (classes : List 
   pub own-inside : sample ≤ work
   own-inside = omega (arith, chunk-inside e d (sampleSize (parameters x)) l, r .work-length, r .sample-length)
 
-  -- Block e is among the blocks.
-  pub blocks-inside : 4 * (suc e * blockSize (parameters x)) ≤ blocks
+  -- The block of level e is among the blocks.
+  pub blocks-inside : 4 * (suc (rotations x + e) * blockSize (parameters x)) ≤ blocks
   blocks-inside =
       let B : ℕ = blockSize (parameters x) in
-      omega (arith, chunk-inside e d B l, suc-mul e B, r .blocks-length)
+      omega (arith, chunk-inside (rotations x + e) (rotations x + d) B (omega arith), suc-mul (rotations x + e) B, r .blocks-length)
 
   -- The numbers of the runs that it joins are small.
   pub branch-small : 2 * t + 1 < 65536
@@ -61,26 +61,22 @@ module _ (x : Numbers) (d e t : ℕ) (sample work blocks : ℕ) (classes : List 
     entries = omega (arith, entries-inside d e t u l h, r .entries);
     sample-length = r .sample-length;
     work-length = omega (arith, chunk-inside e d (sampleSize (parameters x)) l, r .work-length, r .sample-length);
-    blocks-length = omega (arith, chunk-inside e d (blockSize (parameters x)) l, r .blocks-length);
-    classes-length = omega (arith, mul-le-mul (entries-inside d e t u l h) (le-refl (x .s)), r .classes-length);
+    blocks-length = omega (arith, chunk-inside (rotations x + e) (rotations x + d) (blockSize (parameters x)) (omega arith), r .blocks-length);
+    classes-length = omega (arith, mul-le-mul (entries-inside d e t u l h) (le-refl (sampleClasses x)), r .classes-length);
     below = r .below;
   }
 
--- A run of level 0 asks for no selector and no work.
-pub leaf : (x : Numbers) (d t sample work blocks : ℕ) (classes : List ℕ) → d ≡ 0 → Run x d t sample work blocks classes → Run x 0 t sample 0 0 classes
+-- A run of level 0 is a sample of the table,
+pub leaf : (x : Numbers) (d t sample work blocks : ℕ) (classes : List ℕ) → d ≡ 0 → Run x d t sample work blocks classes → Leaf x t sample classes
 leaf x d t sample work blocks classes z r = record {
-  entries = rw z at (r .entries);
   sample-length = r .sample-length;
-  work-length = omega arith;
-  blocks-length = omega arith;
-  classes-length = rw z at (r .classes-length);
+  classes-length = omega (arith, r .classes-length, ap (λ n. suc t * 2 ^ n * sampleClasses x) z, ap (λ n. n * sampleClasses x) (mul-one (suc t)));
   below = r .below;
 }
 
--- The classes of an entry lie inside the table.
-pub entry-inside : (x : Numbers) (t sample work blocks : ℕ) (classes : List ℕ) → Run x 0 t sample work blocks classes
-    → 4 * (t * x .s + x .s) ≤ length classes
-entry-inside x t sample work blocks classes r = omega (arith, r .classes-length, ap (λ n. n * x .s) (mul-one (suc t)), suc-mul t (x .s))
+-- whose classes lie inside the table.
+pub leaf-inside : (x : Numbers) (t sample : ℕ) (classes : List ℕ) → Leaf x t sample classes → 4 * (t * sampleClasses x + sampleClasses x) ≤ length classes
+leaf-inside x t sample classes r = omega (arith, r .classes-length, suc-mul t (sampleClasses x))
 
 -- ---- the gates on their way through the tree
 
@@ -118,22 +114,26 @@ front-kept S own q w ys o rest e lo inside made =
     sym (words-take S whole) ∙ ap (λ m. words (take m whole)) (sym e) ∙ ap words front ∙ ap (λ m. words (take m w)) e ∙ words-take S w
     ∙ ap (take S) made ∙ take-at (words o) rest S (omega (arith, length-words o))
 
+-- What was made at the front of a slice that was lent for it.
+pub front-made : (S q : ℕ) (w ys : List ℕ) → q ≡ 4 * S → length ys ≡ q → take S (words (take 0 w ++ (ys ++ drop q (drop 0 w)))) ≡ words ys
+front-made S q w ys e len = ap (take S) (front-back S q w ys e len) ∙ take-at (words ys) _ S (omega (arith, length-words ys))
+
 -- ---- the tree's sample
 
-module _ (p : Parameters) (blocks : List ℕ) (entry : ℕ → List ℕ) where
+module _ (p : Parameters) (blocks : List ℕ) (r : ℕ) (entry : ℕ → List ℕ) where
   -- A run of level 0 is an entry.
-  pub tree-sample-none : (d t : ℕ) → d ≡ 0 → treeSample p blocks entry d t ≡ entry t
+  pub tree-sample-none : (d t : ℕ) → d ≡ 0 → treeSample p blocks r entry d t ≡ entry t
   unfolding treeSample
   tree-sample-none d t z = tree-none _ entry d t z
 
-  -- Selector e joins runs 2t and 2t + 1 of level e: the first is x, and the second, o, is kept at the front of the work slice w while the
-  -- rest is lent and comes back as ys.
-  pub tree-sample-more : (d e t own q : ℕ) (x o w ys rest : List ℕ) → d ≡ e + 1
+  -- Selector i, which is r + e, joins runs 2t and 2t + 1 of level e: the first is x, and the second, o, is kept at the front of the work slice w while
+  -- the rest is lent and comes back as ys.
+  pub tree-sample-more : (d e i t own q : ℕ) (x o w ys rest : List ℕ) → d ≡ e + 1 → i ≡ r + e
       → own ≡ 4 * sampleSize p → length o ≡ own → own ≤ length w → words w ≡ words o ++ rest
-      → words o ≡ treeSample p blocks entry e (2 * t + 1) → words x ≡ treeSample p blocks entry e (2 * t)
-      → cmuxSample p (selector p e blocks) (words x) (take (sampleSize p) (words (take own w ++ (ys ++ drop q (drop own w)))))
-      ≡ treeSample p blocks entry d t
+      → words o ≡ treeSample p blocks r entry e (2 * t + 1) → words x ≡ treeSample p blocks r entry e (2 * t)
+      → cmuxSample p (selector p i blocks) (words x) (take (sampleSize p) (words (take own w ++ (ys ++ drop q (drop own w)))))
+      ≡ treeSample p blocks r entry d t
   unfolding treeSample
-  tree-sample-more d e t own q x o w ys rest level size len inside kept second first =
-      ap₂ (cmuxSample p (selector p e blocks)) first (front-kept (sampleSize p) own q w ys o rest size len inside kept ∙ second)
-      ∙ sym (tree-more _ entry d e t level)
+  tree-sample-more d e i t own q x o w ys rest level same size len inside kept second first =
+      rw same (ap₂ (cmuxSample p (selector p (r + e) blocks)) first (front-kept (sampleSize p) own q w ys o rest size len inside kept ∙ second)
+      ∙ sym (tree-more _ entry d e t level))

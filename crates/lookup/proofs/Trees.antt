@@ -7,9 +7,10 @@ use Prim.Native.Nat.{ℕ, zero, suc, _+_, _-_, _*_, _/_, _%_, _^_, _≤_, _<_}
 use native.Mathlib.Nat.{le-refl, le-of-eq, add-comm, mod-eq-of-lt, add-mul-div-right, add-mul-mod-self-right, two-pow-succ, mul-le-mul, eq-or-lt-of-le, le-of-suc-le-suc}
 use native.Mathlib.Numerals.{add-one}
 use native.Mathlib.Omega.{arith}
-use lib.Arith.{digits-div}
+use lib.Arith.{digits-div, digits-mod}
 use lib.Pow.{pow-pos, pow-add}
 use Rattle.torus.specs.Sum.{sum}
+use Rattle.torus.proofs.Sums.{sum-cong, sum-append, sum-mul}
 use Rattle.torus.proofs.Near.{near-path, near-trans, near-weaken}
 use Rattle.ring.proofs.Close.{Close}
 use Rattle.trgsw.specs.External.{picked}
@@ -53,6 +54,31 @@ entry-number-digit bits zero h i l = absurd (omega arith)
 entry-number-digit bits (suc d) h i l =
     let low : (j : ℕ) → j < d → bits j ≤ 1 = λ j m. h j (omega arith) in
     digit-more bits d i (entry-number-lt bits d low) (h d (omega arith)) (λ m. entry-number-digit bits d low i m) (eq-or-lt-of-le (le-of-suc-le-suc l))
+
+-- The first r selectors name an entry among the 2^r of a sample, and the others the sample: h = tau·2^r + rho.
+entry-number-split : (bits : ℕ → ℕ) (r e : ℕ) → entryNumber bits (r + e) ≡ entryNumber (λ i. bits (r + i)) e * 2 ^ r + entryNumber bits r
+unfolding entryNumber
+entry-number-split bits r e =
+    sum-append r e (λ i. bits i * 2 ^ i)
+    ∙ ap (λ s. sum r (λ i. bits i * 2 ^ i) + s)
+    (sum-cong e _ (λ i. bits (r + i) * 2 ^ i * 2 ^ r) (λ i l. omega (arith, ap (λ n. bits (r + i) * n) (pow-add 2 r i)))
+    ∙ sum-mul e (λ i. bits (r + i) * 2 ^ i) (2 ^ r))
+    ∙ add-comm _ _
+
+module _ (bits : ℕ → ℕ) (r d : ℕ) (l : r ≤ d) (bit : (i : ℕ) → i < d → bits i ≤ 1) where
+  split-at : entryNumber bits d ≡ entryNumber (λ i. bits (r + i)) (d - r) * 2 ^ r + entryNumber bits r
+  split-at = let whole : d ≡ r + (d - r) = omega arith in ap (entryNumber bits) whole ∙ entry-number-split bits r (d - r)
+
+  low : entryNumber bits r < 2 ^ r
+  low = entry-number-lt bits r (λ i m. bit i (omega arith))
+
+  -- rho of h,
+  pub entry-number-low : entryNumber bits d % 2 ^ r ≡ entryNumber bits r
+  entry-number-low = ap (λ h. h % 2 ^ r) split-at ∙ digits-mod (entryNumber (λ i. bits (r + i)) (d - r)) low
+
+  -- and tau.
+  pub entry-number-high : entryNumber bits d / 2 ^ r ≡ entryNumber (λ i. bits (r + i)) (d - r)
+  entry-number-high = ap (λ h. h / 2 ^ r) split-at ∙ digits-div (entryNumber (λ i. bits (r + i)) (d - r)) low
 
 -- ---- the tree
 

@@ -1,24 +1,24 @@
--- The public call `lookup`: its whole answer, and what it leaves in the slices that it writes. The answer has a line for each row of
+-- The public calls `lookup` and `lookup_vertical`, which differ in the packing among the job's numbers: the whole answer, and what it leaves in the slices that it writes. The answer has a line for each row of
 -- document 01's table of returned numbers that applies.
 -- Assumes nothing.
 use mathlib.Core.Path.{_≡_}
 use mathlib.Core.List.{List}
-use Prim.Native.Nat.{ℕ, _+_, _-_, _*_, _^_}
+use Prim.Native.Nat.{ℕ, _+_, _*_}
 use lib.ListN.{length, replicate}
 use Rattle.torus.specs.Bytes.{words, bytes}
 use Rattle.answers.specs.Checks as Check
 use Rattle.answers.specs.Answers.{_orElse_, number, noise, after}
 use Rattle.answers.specs.declared.Answer.{Answer}
 use Rattle.trgsw.specs.Parameters.{sampleSize, blockSize}
-use Rattle.lookup.specs.Numbers.{parameters, tableSize}
+use Rattle.lookup.specs.Numbers.{parameters, tableSize, rotations, gateCount, mostClasses, mostSelectors}
 use Rattle.lookup.specs.Job.{Job}
-use Rattle.lookup.specs.Lookup.{entrySample, treeSample, charges}
+use Rattle.lookup.specs.Lookup.{tableSample, lookedUp, charges}
 
 -- "The bound is the sum of the d charges".
 abbrev pub noiseBound : Job → ℕ
 noiseBound j = charges (parameters (j .numbers)) (words (j .amplitudes)) (j .numbers .d)
 
--- "the gates are 2^d - 1". Refused with 9 if "the bound is 2^31/M or more".
+-- The answer. Refused with 9 if "the bound is 2^31/M or more".
 unfoldable pub lookup : Job → Answer
 lookup j =
     let x = j .numbers in
@@ -26,23 +26,23 @@ lookup j =
     Check.degree (x .N)
     orElse Check.gadget (x .g) (x .L)
     orElse Check.classNumber (x .M)
-    orElse Check.count (x .N) (x .s) orElse Check.depth (x .d)
+    orElse Check.count (mostClasses (x .packing) (x .N)) (x .s) orElse Check.depth (mostSelectors (x .packing)) (x .d)
     orElse Check.exact (length (j .blocks)) (x .d * blockSize p) orElse Check.exact (length (j .amplitudes)) (x .d)
     orElse Check.exact (length (j .classes)) (tableSize x)
     orElse Check.exact (length (j .sample)) (sampleSize p) orElse Check.exact (length (j .work)) (sampleSize p * (x .d + 1))
     orElse Check.amplitudes (words (j .amplitudes))
     orElse Check.classes (x .M) (words (j .classes))
-    orElse noise (x .M) (noiseBound j) (2 ^ x .d - 1)
+    orElse noise (x .M) (noiseBound j) (gateCount x)
 
 -- "accepted means answer 0"
 abbrev pub IsAccepted : Job → Type 0
 IsAccepted j = number (lookup j) ≡ 0
 
--- The words of the result: the one run of level d, of all 2^d entries. "With d = 0 the result is the entry itself".
+-- The words of the result, of all 2^d entries. "With d = 0 the result is the entry itself".
 abbrev pub resultSample : Job → List ℕ
 resultSample j =
     let x = j .numbers in
-    treeSample (parameters x) (words (j .blocks)) (entrySample x (words (j .classes))) (x .d) 0
+    lookedUp (parameters x) (words (j .blocks)) (rotations x) (tableSample x (words (j .classes))) (x .d)
 
 -- What it leaves in the sample's slice.
 unfoldable pub lookupSample : Job → List ℕ

@@ -9,7 +9,7 @@ use Rattle.torus.specs.Bytes.{words}
 use Rattle.answers.specs.Checks as Check
 use Rattle.trgsw.specs.Parameters.{sampleSize, blockSize}
 use Rattle.lookup.specs.declared.Numbers.{Numbers}
-use Rattle.lookup.specs.Numbers.{LawfulNumbers, parameters, tableSize}
+use Rattle.lookup.specs.Numbers.{LawfulNumbers, parameters, rotations, sampleClasses, tableSize}
 use Rattle.lookup.specs.Job.{Job}
 
 -- Of the first d selectors: amplitudes up to 2^31.
@@ -19,13 +19,19 @@ pub record Selectors (x : Numbers) (d : ℕ) (amplitudes : List ℕ) : Type 0 wh
   pub amplitudes-length : 4 * d ≤ length amplitudes
   pub small : (i : ℕ) → i < d → getD (words amplitudes) i 0 ≤ 2 ^ 31
 
--- Of the slices, for run t of level d: their lengths in bytes, and classes below M.
+-- Of the sample's length in bytes and of the table, for sample t of the table.
+pub record Leaf (x : Numbers) (t sample : ℕ) (classes : List ℕ) : Type 0 where
+  pub sample-length : sample ≡ 4 * sampleSize (parameters x)
+  pub classes-length : 4 * (suc t * sampleClasses x) ≤ length classes
+  pub below : (i : ℕ) → i < length (words classes) → getD (words classes) i 0 < x .M
+
+-- Of the slices, for run t of level d of the tree: their lengths in bytes, and classes below M.
 pub record Run (x : Numbers) (d t : ℕ) (sample work blocks : ℕ) (classes : List ℕ) : Type 0 where
   pub entries : suc t * 2 ^ d ≤ 65536
   pub sample-length : sample ≡ 4 * sampleSize (parameters x)
   pub work-length : 4 * (d * sampleSize (parameters x)) ≤ work
-  pub blocks-length : 4 * (d * blockSize (parameters x)) ≤ blocks
-  pub classes-length : 4 * (suc t * 2 ^ d * x .s) ≤ length classes
+  pub blocks-length : 4 * ((rotations x + d) * blockSize (parameters x)) ≤ blocks
+  pub classes-length : 4 * (suc t * 2 ^ d * sampleClasses x) ≤ length classes
   pub below : (i : ℕ) → i < length (words classes) → getD (words classes) i 0 < x .M
 
 -- Refusal 5 of the slices, or 0.

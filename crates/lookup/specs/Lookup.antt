@@ -1,28 +1,49 @@
--- A lookup on words, with k masks: its selectors, its entries, the tree's sample and the noise bound.
+-- A lookup on words, with k masks: its selectors, the CMux tree, the blind rotation, the noise bound, and the samples of its table. Of
+-- d selectors the first r rotate and the others are the tree's. What is quoted of the rotation is from document 02, Paper 1.
 -- Assumes nothing.
 use mathlib.Core.List.{List}
-use Prim.Native.Nat.{ℕ}
+use Prim.Native.Nat.{ℕ, zero, suc, _+_, _-_, _/_, _%_, _^_}
 use lib.ListN.{getD}
 use Rattle.torus.specs.Sum.{sum, chunk}
+use Rattle.ring.specs.Polynomial.{rotated}
 use Rattle.trlwe.specs.Classes.{message}
-use Rattle.trlwe.specs.Sample.{trivial}
+use Rattle.trlwe.specs.Sample.{trivial, rotatedSample}
 use Rattle.trgsw.specs.Parameters.{blockSize, cmuxSample, charge}
 use Rattle.trgsw.specs.declared.Parameters.{Parameters}
 use Rattle.lookup.specs.declared.Numbers.{Numbers}
-use Rattle.lookup.specs.Numbers.{masks}
+use Rattle.lookup.specs.Numbers.{masks, rotations, sampleClasses}
 use Rattle.lookup.specs.Tree.{tree}
+
+-- ---- selectors
 
 -- The block of selector i. A lookup has the blocks of its selectors one after another.
 abbrev pub selector : (p : Parameters) (i : ℕ) (blocks : List ℕ) → List ℕ
 selector p i blocks = chunk (blockSize p) i blocks
 
--- The sample of run t of level d, whatever samples the entries are. A selector joins two samples by its CMux.
-unfoldable pub treeSample : (p : Parameters) (blocks : List ℕ) (entry : (h : ℕ) → List ℕ) (d t : ℕ) → List ℕ
-treeSample p blocks entry d t = tree (λ i. cmuxSample p (selector p i blocks)) entry d t
+-- The sample of run t of level d, whatever samples the entries are. A selector joins two samples by its CMux; that of level i is
+-- selector r + i, since the first r rotate.
+unfoldable pub treeSample : (p : Parameters) (blocks : List ℕ) (r : ℕ) (entry : (t : ℕ) → List ℕ) (d t : ℕ) → List ℕ
+treeSample p blocks r entry d t = tree (λ i. cmuxSample p (selector p (r + i) blocks)) entry d t
+
+-- "Rotation step i picks, by selector i, between the sample and the sample times X^(-2^i)",
+unfoldable pub rotationStep : (p : Parameters) (blocks : List ℕ) (i : ℕ) (x : List ℕ) → List ℕ
+rotationStep p blocks i x = cmuxSample p (selector p i blocks) x (rotatedSample (p .N) (p .k) (2 ^ i) x)
+
+-- "lowest step first": the blind rotation by the first r selectors, the thesis's Algorithm 5 with the exponents 2^0 to 2^(r-1).
+unfoldable pub blindRotation : (p : Parameters) (blocks : List ℕ) (r : ℕ) (x : List ℕ) → List ℕ
+blindRotation p blocks zero x = x
+blindRotation p blocks (suc i) x = rotationStep p blocks i (blindRotation p blocks i x)
+
+-- The sample of a lookup with d selectors, of which the first r rotate: the tree's, of all 2^(d-r) entries, rotated. It is the thesis's
+-- Algorithm 6 up to its last line, the extraction; with r = 0 it is the tree alone.
+unfoldable pub lookedUp : (p : Parameters) (blocks : List ℕ) (r : ℕ) (entry : (t : ℕ) → List ℕ) (d : ℕ) → List ℕ
+lookedUp p blocks r entry d = blindRotation p blocks r (treeSample p blocks r entry (d - r) 0)
 
 -- "The bound is the sum of the d charges".
 unfoldable pub charges : (p : Parameters) (amplitudes : List ℕ) (d : ℕ) → ℕ
 charges p amplitudes d = sum d (λ i. charge p (getD amplitudes i 0))
+
+-- ---- the table
 
 -- The s classes of entry h, "all s of entry 0 first".
 abbrev pub entryClasses : (x : Numbers) (h : ℕ) (classes : List ℕ) → List ℕ
@@ -32,6 +53,15 @@ entryClasses x h classes = chunk (x .s) h classes
 abbrev pub entryMessage : (x : Numbers) (h : ℕ) (classes : List ℕ) (i : ℕ) → ℕ
 entryMessage x h classes i = message (x .M) (x .s) (entryClasses x h classes) i
 
+-- The exact encoding of sample t of the table: "consecutive entries fill the coefficients", and "unused coefficients are 0".
+abbrev pub tableMessage : (x : Numbers) (t : ℕ) (classes : List ℕ) (i : ℕ) → ℕ
+tableMessage x t classes i = message (x .M) (sampleClasses x) (chunk (sampleClasses x) t classes) i
+
 -- "Public entries are trivial packed samples."
-abbrev pub entrySample : (x : Numbers) (classes : List ℕ) (h : ℕ) → List ℕ
-entrySample x classes h = trivial (x .N) (masks x) (entryMessage x h classes)
+abbrev pub tableSample : (x : Numbers) (classes : List ℕ) (t : ℕ) → List ℕ
+tableSample x classes t = trivial (x .N) (masks x) (tableMessage x t classes)
+
+-- What a lookup holds where the bits name entry h: X^(-rho) times the message of sample tau, with h = tau·2^r + rho. With r = 0 it is the
+-- encoding of entry h.
+abbrev pub namedMessage : (x : Numbers) (h : ℕ) (classes : List ℕ) (i : ℕ) → ℕ
+namedMessage x h classes i = rotated (x .N) (h % 2 ^ rotations x) (tableMessage x (h / 2 ^ rotations x) classes) i

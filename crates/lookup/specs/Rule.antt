@@ -1,7 +1,7 @@
 -- Demand 3, the accuracy rule: what it asks of a job beside that it is accepted, and what it says.
 -- Assumes nothing.
 use mathlib.Core.Path.{_≡_}
-use mathlib.Core.List.{List}
+use mathlib.Core.List.{List, [], _∷_}
 use Prim.Native.Nat.{ℕ, _*_, _≤_, _<_}
 use lib.ListN.{length, getD}
 use Rattle.torus.specs.Sum.{chunk}
@@ -9,6 +9,7 @@ use Rattle.torus.specs.Word.{distance}
 use Rattle.torus.specs.Bytes.{AreBytes, words, bytes}
 use Rattle.answers.specs.Answers.{number, bound}
 use Rattle.answers.specs.declared.Answer.{Answer}
+use Rattle.trlwe.specs.Classes.{encode}
 use Rattle.trlwe.specs.Sample.{Key, phase}
 use Rattle.trlwe.specs.Calls.{decryptClasses, decryptClassesClasses}
 use Rattle.trgsw.specs.Parameters.{Holds}
@@ -17,7 +18,7 @@ use Rattle.lookup.specs.declared.Numbers.{Numbers}
 use Rattle.lookup.specs.Numbers.{masks, parameters}
 use Rattle.lookup.specs.Tree.{entryNumber}
 use Rattle.lookup.specs.Job.{Job}
-use Rattle.lookup.specs.Lookup.{selector, entryClasses, entryMessage}
+use Rattle.lookup.specs.Lookup.{selector, entryClasses, entryMessage, namedMessage}
 
 -- The key is of 0s and 1s, each selector block holds its bit within its declared amplitude, and decryption is lent a slice `out` for
 -- s classes.
@@ -32,14 +33,32 @@ pub record Premises (j : Job) (bits : ℕ → ℕ) (key out : List ℕ) : Type 0
 abbrev pub named : (j : Job) (bits : ℕ → ℕ) → ℕ
 named j bits = entryNumber bits (j .numbers .d)
 
--- Of an answer and a sample: each coefficient of the sample's phase is within the reported bound of the named entry's exact encoding, and
--- "Decryption is called with the job's N, M and s", is accepted and lists that entry's classes.
+-- Of an answer and a sample: each coefficient of the sample's phase is within the reported bound of what the lookup holds where the bits
+-- name that entry, and "Decryption is called with the job's N, M and s", is accepted and lists that entry's classes.
 pub record Accurate (j : Job) (bits : ℕ → ℕ) (key out : List ℕ) (answer : Answer) (sample : List ℕ) : Type 0 where
+  pub within : (i : ℕ) → i < j .numbers .N → let x = j .numbers in
+      distance (phase (x .N) (masks x) (words key) (words sample) i) (namedMessage x (named j bits) (words (j .classes)) i) ≤ bound answer
+  pub decrypts : let x = j .numbers in number (decryptClasses (x .N) (x .M) (x .s) key sample out) ≡ 0
+  pub lists : let x = j .numbers in
+      decryptClassesClasses (x .N) (x .M) (x .s) key sample out ≡ bytes (entryClasses x (named j bits) (words (j .classes)))
+
+-- ---- the same in each packing
+
+-- In the horizontal packing: each coefficient is within the bound of the named entry's exact encoding.
+pub record AccurateHorizontal (j : Job) (bits : ℕ → ℕ) (key out : List ℕ) (answer : Answer) (sample : List ℕ) : Type 0 where
   pub within : (i : ℕ) → i < j .numbers .N → let x = j .numbers in
       distance (phase (x .N) (masks x) (words key) (words sample) i) (entryMessage x (named j bits) (words (j .classes)) i) ≤ bound answer
   pub decrypts : let x = j .numbers in number (decryptClasses (x .N) (x .M) (x .s) key sample out) ≡ 0
   pub lists : let x = j .numbers in
       decryptClassesClasses (x .N) (x .M) (x .s) key sample out ≡ bytes (entryClasses x (named j bits) (words (j .classes)))
+
+-- In the vertical one, where an entry is one class, "for coefficient 0 alone, with decryption called with s = 1".
+pub record AccurateVertical (j : Job) (bits : ℕ → ℕ) (key out : List ℕ) (answer : Answer) (sample : List ℕ) : Type 0 where
+  pub within : let x = j .numbers in
+      distance (phase (x .N) (masks x) (words key) (words sample) 0) (encode (x .M) (getD (words (j .classes)) (named j bits) 0)) ≤ bound answer
+  pub decrypts : let x = j .numbers in number (decryptClasses (x .N) (x .M) 1 key sample out) ≡ 0
+  pub lists : let x = j .numbers in
+      decryptClassesClasses (x .N) (x .M) 1 key sample out ≡ bytes (getD (words (j .classes)) (named j bits) 0 ∷ [])
 
 -- ---- where the blocks come from encryption
 

@@ -1,16 +1,41 @@
 // What refuses a lookup before its noise is judged. Each function gives the number of the first refusal that applies, or 0.
 use crate::Numbers;
+use crate::Packing;
 ghost use mathlib.Core.Path.{_≡_};
 ghost use Rattle.torus.specs.Bytes.{words};
 ghost use Rattle.answers.specs.Checks as Check;
-ghost use Rattle.lookup.specs.Numbers.{LawfulNumbers, numbers};
+ghost use Rattle.lookup.specs.Numbers.{LawfulNumbers, mostClasses, mostSelectors, numbers};
 ghost use Rattle.lookup.specs.Inner as Inner;
+
+// The most classes of an entry in a packing.
+fn most_classes(x: Numbers) -> u64
+    ensures { λ r. ⌜ r ≡ mostClasses (x .packing) (x .N) ⌝ }
+{
+    let packing = x.packing;
+    match packing {
+        Packing::Horizontal => x.N,
+        Packing::Vertical => 1,
+    }
+}
+
+// The most selectors of a lookup in a packing.
+fn most_selectors(x: Numbers) -> u64
+    ensures { λ r. ⌜ r ≡ mostSelectors (x .packing) ⌝ }
+{
+    let packing = x.packing;
+    match packing {
+        Packing::Horizontal => 10,
+        Packing::Vertical => 16,
+    }
+}
 
 // 1 to 4: the numbers.
 pub fn check_numbers(x: Numbers) -> u32
     ensures { λ r. ⌜ r ≡ numbers x ⌝ }
 {
-    let sizes = answers::first(answers::count(x.N, x.s), answers::depth(x.d));
+    let count = answers::count(most_classes(x), x.s);
+    let depth = answers::depth(most_selectors(x), x.d);
+    let sizes = answers::first(count, depth);
     let classes = answers::first(answers::class_number(x.M), sizes);
     let gadget = answers::first(answers::gadget(x.g, x.L), classes);
     answers::first(answers::degree(x.N), gadget)

@@ -1,20 +1,29 @@
-// Lookups: the entry of a public table that encrypted selector bits name, as a sample, without the key. Inside, samples have k
-// masks; the public call has k = 1.
+// Lookups: the entry of a public table that encrypted selector bits name, as a sample, without the key, in either packing. Inside,
+// samples have k masks; the public calls have k = 1.
 pub mod checks;
+pub mod rotation;
 pub mod tree;
 
 use answers::Answer;
 use trgsw::Parameters;
 ghost use mathlib.Core.Path.{_≡_};
-ghost use Prim.Native.Nat.{_^_, _≤_};
+ghost use Prim.Native.Nat.{_^_, _≤_, min};
 ghost use Rattle.trgsw.specs.Parameters.{sampleSize, blockSize};
-ghost use Rattle.lookup.specs.Numbers.{LawfulNumbers, parameters, tableSize};
+ghost use Rattle.lookup.specs.Numbers.{LawfulNumbers, parameters, tableSize, rotations, levels, sampleClasses, gateCount};
 ghost use Rattle.lookup.specs.Job.{Job};
 ghost use Rattle.lookup.specs.Calls as Calls;
 
-// The numbers of a lookup, by document 01's letters: degree N, a gadget of L digits in base 2^g, M classes, s of them in an entry, and d
-// selectors.
+// How a table stands in samples: an entry of s classes in each, or consecutive entries of one class, as many as there is room for. The
+// thesis has these names.
+pub enum Packing {
+    Horizontal,
+    Vertical,
+}
+
+// The packing and the numbers of a lookup, by document 01's letters: degree N, a gadget of L digits in base 2^g, M classes, s of them in
+// an entry, and d selectors.
 pub struct Numbers {
+    pub packing: Packing,
     pub N: u64,
     pub g: u64,
     pub L: u64,
@@ -23,12 +32,48 @@ pub struct Numbers {
     pub d: u64,
 }
 
-// The number of entries: 2^d.
+// The number of entries that d selectors name: 2^d.
 fn entries(d: u64) -> u64
-    requires { ⌜ d ≤ 10 ⌝ }
+    requires { ⌜ d ≤ 16 ⌝ }
     ensures { λ r. ⌜ r ≡ 2 ^ d ⌝ }
 {
     1u64 << d as u32
+}
+
+// The smaller of two numbers.
+fn smaller(a: u64, b: u64) -> u64
+    ensures { λ r. ⌜ r ≡ min a b ⌝ }
+{
+    if a < b { a } else { b }
+}
+
+// The number of selectors that rotate: with N = 2^v, the first v in the vertical packing, or all where there are fewer.
+fn rotations(x: Numbers) -> u64
+    requires { ⌜ LawfulNumbers x ⌝ }
+    ensures { λ r. ⌜ r ≡ rotations x ⌝ }
+{
+    let packing = x.packing;
+    match packing {
+        Packing::Horizontal => 0,
+        Packing::Vertical => smaller(ring::exponent(x.N as usize) as u64, x.d),
+    }
+}
+
+// The classes in a sample of the table: those of 2^r entries.
+fn sample_classes(x: Numbers) -> u64
+    requires { ⌜ LawfulNumbers x ⌝ }
+    ensures { λ r. ⌜ (r ≡ sampleClasses x) × (r ≤ x .N) ⌝ }
+{
+    x.s * entries(rotations(x))
+}
+
+// The CMuxes of a lookup: those of the tree, and one for each step of the rotation.
+fn gate_count(x: Numbers) -> u64
+    requires { ⌜ LawfulNumbers x ⌝ }
+    ensures { λ r. ⌜ r ≡ gateCount x ⌝ }
+{
+    let turns = rotations(x);
+    entries(x.d - turns) - 1 + turns
 }
 
 // The parameter set of a lookup: one mask, and keys of up to N ones.
@@ -105,7 +150,7 @@ pub fn lookup_answer(
         return Answer::Refused(contents);
     }
     let bound = tree::charges(amplitudes, x, x.d as usize);
-    answers::noise(x.M, bound, entries(x.d) - 1)
+    answers::noise(x.M, bound, gate_count(x))
 }
 
 // The entry that the bits of d selector blocks name, each block within its declared amplitude; there are 2^d entries of s classes.
@@ -132,5 +177,5 @@ pub fn lookup(
     if answer.number() != 0 {
         return answer;
     }
-    Answer::Accepted(tree::evaluate(sample, work, blocks, amplitudes, classes, x))
+    Answer::Accepted(rotation::evaluate(sample, work, blocks, amplitudes, classes, x))
 }

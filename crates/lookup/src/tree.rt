@@ -1,13 +1,13 @@
-// The tree of CMuxes over the entries of a table, depth first. Samples have k masks.
+// The tree of CMuxes over the samples of a table, depth first. Samples have k masks.
 use crate::Numbers;
 use answers::Ledger;
 ghost use mathlib.Core.Path.{_≡_};
-ghost use Prim.Native.Nat.{suc, _+_, _*_, _/_, _-_, _^_, _≤_, _<_};
-ghost use lib.ListN.{length, getD, take, drop, replicate};
+ghost use Prim.Native.Nat.{suc, _+_, _*_, _/_, _^_, _≤_, _<_};
+ghost use lib.ListN.{length, getD, take, drop};
 ghost use mathlib.Core.List.{_++_};
 ghost use Rattle.torus.specs.Bytes.{words};
 ghost use Rattle.trgsw.specs.Parameters.{sampleSize, blockSize, cmuxSample, charge};
-ghost use Rattle.lookup.specs.Numbers.{LawfulNumbers, parameters};
+ghost use Rattle.lookup.specs.Numbers.{LawfulNumbers, parameters, rotations};
 ghost use Rattle.lookup.specs.Lookup as Lookup;
 ghost use Rattle.lookup.specs.Inner as Inner;
 
@@ -35,17 +35,17 @@ pub fn charges(amplitudes: &[u8], x: Numbers, d: usize) -> u64
     sum
 }
 
-// Entry t, as a trivial sample.
-fn write_entry(sample: &mut [u8], classes: &[u8], x: Numbers, t: usize)
-    requires { ⌜ LawfulNumbers x × Inner.Run x 0 t (length (now sample)) 0 0 (now classes) ⌝ }
+// Sample t of the table.
+fn write_table_sample(sample: &mut [u8], classes: &[u8], x: Numbers, t: usize)
+    requires { ⌜ LawfulNumbers x × Inner.Leaf x t (length (now sample)) (now classes) ⌝ }
     ensures { λ _. ⌜ words (now (sample .exit))
-        ≡ Lookup.entrySample x (words (now (classes .entry))) t ⌝ }
+        ≡ Lookup.tableSample x (words (now (classes .entry))) t ⌝ }
 {
     let p = crate::parameters(x);
-    let s = x.s as usize;
-    let size = 4 * s;
+    let count = crate::sample_classes(x) as usize;
+    let size = 4 * count;
     let at = t * size;
-    trlwe::write_trivial(sample, &classes[at..at + size], p.k, p.N, x.M, s);
+    trlwe::write_trivial(sample, &classes[at..at + size], p.k, p.N, x.M, count);
 }
 
 // Keeps a sample at the front of work.
@@ -60,7 +60,7 @@ fn keep(work: &mut [u8], sample: &[u8])
 
 // The CMux by selector i of two samples: sample0 in `sample`, where the result goes, and sample1 at the front of work. The ledger is
 // raised by its charge.
-fn join(
+pub fn join(
     sample: &mut [u8],
     work: &mut [u8],
     blocks: &[u8],
@@ -97,9 +97,9 @@ fn join(
     ledger.raise(charge_of(amplitudes, x, i))
 }
 
-// Run t of level d. A level keeps one sample at the front of work, and lends the rest to the level below; the number of that level
-// is also that of the selector which joins its runs. Each run hands a ledger back: run 2t + 1 `odd`, run 2t `even`.
-fn tree(
+// Run t of level d. A level keeps one sample at the front of work, and lends the rest to the level below, whose runs are joined by the
+// selector of that number among those that do not rotate. Each run hands a ledger back: run 2t + 1 `odd`, run 2t `even`.
+pub fn tree(
     sample: &mut [u8],
     work: &mut [u8],
     blocks: &[u8],
@@ -110,18 +110,18 @@ fn tree(
     t: usize,
     ledger: Ledger,
 ) -> Ledger
-    requires { ⌜ Inner.Selectors x d (now amplitudes)
+    requires { ⌜ Inner.Selectors x (rotations x + d) (now amplitudes)
         × Inner.Run x d t (length (now sample)) (length (now work)) (length (now blocks)) (now classes)
-        × (ledger .bound + Lookup.charges (parameters x) (words (now amplitudes)) d < 2 ^ 64)
+        × (ledger .bound + Lookup.charges (parameters x) (words (now amplitudes)) (rotations x + d) < 2 ^ 64)
         × (ledger .gates + 2 ^ d < 2 ^ 64) ⌝ }
     ensures { λ r. ⌜ (words (now (sample .exit)) ≡ Lookup.treeSample (parameters x) (words (now (blocks .entry)))
-        (Lookup.entrySample x (words (now (classes .entry)))) d t)
-        × (r .bound ≡ ledger .bound
-        + Lookup.charges (parameters x) (words (now (amplitudes .entry))) d)
+        (rotations x) (Lookup.tableSample x (words (now (classes .entry)))) d t)
+        × (r .bound + Lookup.charges (parameters x) (words (now (amplitudes .entry))) (rotations x)
+        ≡ ledger .bound + Lookup.charges (parameters x) (words (now (amplitudes .entry))) (rotations x + d))
         × (r .gates + 1 ≡ ledger .gates + 2 ^ d) ⌝ }
 {
     if d == 0 {
-        write_entry(sample, classes, x, t);
+        write_table_sample(sample, classes, x, t);
         return ledger;
     }
     let own = sample.len();
@@ -149,38 +149,6 @@ fn tree(
         2 * t,
         odd.beside(ledger),
     );
-    join(sample, work, blocks, amplitudes, x, below, even)
-}
-
-// The lookup in all 2^d entries; work is cleared after it.
-pub fn evaluate(
-    sample: &mut [u8],
-    work: &mut [u8],
-    blocks: &[u8],
-    amplitudes: &[u8],
-    classes: &[u8],
-    x: Numbers,
-) -> Ledger
-    requires { ⌜ Inner.Selectors x (x .d) (now amplitudes)
-        × Inner.Run x (x .d) 0 (length (now sample)) (length (now work)) (length (now blocks)) (now classes)
-        × (4 * (length (now work) / 4) ≡ length (now work)) ⌝ }
-    ensures { λ r. ⌜ (words (now (sample .exit)) ≡ Lookup.treeSample (parameters x) (words (now (blocks .entry)))
-        (Lookup.entrySample x (words (now (classes .entry)))) (x .d) 0)
-        × (words (now (work .exit)) ≡ replicate (length (now (work .entry)) / 4) 0)
-        × (r .bound ≡ Lookup.charges (parameters x) (words (now (amplitudes .entry))) (x .d))
-        × (r .gates ≡ 2 ^ x .d - 1) ⌝ }
-{
-    let ledger = tree(
-        sample,
-        work,
-        blocks,
-        amplitudes,
-        classes,
-        x,
-        x.d as usize,
-        0,
-        Ledger { bound: 0, gates: 0 },
-    );
-    torus::clear_words(work, work.len() / 4);
-    ledger
+    let selector = crate::rotations(x) as usize + below;
+    join(sample, work, blocks, amplitudes, x, selector, even)
 }

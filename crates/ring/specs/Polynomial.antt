@@ -2,11 +2,11 @@
 -- of the place; of a list of words these are its elements.
 -- Assumes nothing.
 use mathlib.Core.Path.{_≡_}
-use mathlib.Core.Bool.{Bool, _&&_}
+use mathlib.Core.Bool.{Bool, cond, _&&_}
 use mathlib.Core.List.{List}
 use Prim.Native.Nat.{ℕ, suc, _+_, _-_, _*_, _%_, _^_, _≤_, _<_}
 use lib.Count.{ones, trailingZeros}
-use lib.Dec.{eqb, leb}
+use lib.Dec.{eqb, leb, ltb}
 use lib.ListN.{length, getD}
 use Rattle.torus.specs.Sum.{sum, tabulate}
 use Rattle.torus.specs.Word.{add, sub, magnitude}
@@ -49,6 +49,11 @@ product N y p k = sub (inside y p k % 2 ^ 32) (passed N y p k % 2 ^ 32)
 -- The words of a polynomial to which the product of two others is added.
 unfoldable pub addProduct : ℕ → List ℕ → List ℕ → List ℕ → List ℕ
 addProduct N out y p = tabulate N (λ k. add (coefficients out k) (product N (coefficients y) (coefficients p) k))
+
+-- Coefficient t of X^(-r)·p, for r up to N: every term comes down by r places, and "a term that passes the end returns with its
+-- sign changed".
+unfoldable pub rotated : (N r : ℕ) (p : ℕ → ℕ) (t : ℕ) → ℕ
+rotated N r p t = cond (ltb (t + r) N) (p (t + r)) (sub 0 (p (t + r - N)))
 
 -- What the product's code asks of its bytes: three polynomials of one degree, one of them small. Digits are small, and so are
 -- the 0s and 1s of a key.

@@ -1,10 +1,10 @@
-// Degrees of polynomials modulo X^n + 1, and their product by its formula.
+// Degrees of polynomials modulo X^n + 1, their product by its formula, and their rotation.
 ghost use mathlib.Core.Path.{_≡_};
 ghost use Prim.Native.Nat.{_+_, _-_, _*_, _%_, _^_, _≤_, _<_};
 ghost use lib.ListN.{length};
-ghost use Rattle.torus.specs.Sum.{sum};
+ghost use Rattle.torus.specs.Sum.{sum, tabulate};
 ghost use Rattle.torus.specs.Bytes.{words};
-ghost use Rattle.ring.specs.Polynomial.{Degree, log, isDegree, coefficients, product, addProduct};
+ghost use Rattle.ring.specs.Polynomial.{Degree, log, isDegree, coefficients, product, addProduct, rotated};
 
 // Whether n is a degree: a power of two has exactly one bit set.
 pub fn is_degree(n: u64) -> bool
@@ -64,5 +64,29 @@ pub fn add_by_coefficients(out: &mut [u8], small: &[u8], row: &[u8], n: usize)
         let w = torus::word_at(out, k);
         torus::put_word(out, k, torus::add(w, coefficient(small, row, n, k)));
         k += 1;
+    }
+}
+
+// The word of X^(-r)·p at place t.
+fn rotated_word(p: &[u8], n: usize, r: usize, t: usize) -> u32
+    requires { ⌜ (length (now p) ≡ 4 * n) × (n ≤ 1024) × (r ≤ n) × (t < n) ⌝ }
+    ensures { λ w. ⌜ w ≡ rotated n r (coefficients (words (now (p .entry)))) t ⌝ }
+{
+    let from = t + r;
+    if from < n {
+        return torus::word_at(p, from);
+    }
+    torus::sub(0, torus::word_at(p, from - n))
+}
+
+// The polynomial X^(-r)·p: every term comes down by r places, and one that passes the end returns with its sign changed.
+pub fn rotate(out: &mut [u8], p: &[u8], n: usize, r: usize)
+    requires { ⌜ (length (now out) ≡ 4 * n) × (length (now p) ≡ 4 * n) × (n ≤ 1024) × (r ≤ n) ⌝ }
+    ensures { λ _. ⌜ words (now (out .exit)) ≡ tabulate n (rotated n r (coefficients (words (now (p .entry))))) ⌝ }
+{
+    let mut t = 0;
+    while t < n {
+        torus::put_word(out, t, rotated_word(p, n, r, t));
+        t += 1;
     }
 }

@@ -5,4 +5,5 @@ pub mod Polynomials
 pub mod Accepted
 pub mod Decrypted
 pub mod Phases
+pub mod Rotation
 pub mod RoundTrip

@@ -34,9 +34,12 @@ unfolding masked
 masked-le N k K x i = le-of-lt (mod-lt _ (lit< tt))
 
 -- A phase is a word.
-pub phase-le : (N k : ℕ) (K x : List ℕ) (i : ℕ) → phase N k K x i ≤ 2 ^ 32
+pub phase-word : (N k : ℕ) (K x : List ℕ) (i : ℕ) → phase N k K x i < 2 ^ 32
 unfolding phase
-phase-le N k K x i = le-of-lt (mod-lt _ (lit< tt))
+phase-word N k K x i = mod-lt _ (lit< tt)
+
+pub phase-le : (N k : ℕ) (K x : List ℕ) (i : ℕ) → phase N k K x i ≤ 2 ^ 32
+phase-le N k K x i = le-of-lt (phase-word N k K x i)
 
 -- a·K depends on the words of the masks alone.
 masked-agree : (N k : ℕ) (K a b : List ℕ) → ((t : ℕ) → t < k * N → getD a t 0 ≡ getD b t 0) → Agree N (masked N k K a) (masked N k K b)

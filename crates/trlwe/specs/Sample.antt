@@ -4,12 +4,12 @@
 -- Assumes nothing.
 use mathlib.Core.Path.{_≡_}
 use mathlib.Core.List.{List, _++_}
-use Prim.Native.Nat.{ℕ, _+_, _*_, _%_, _^_, _≤_, _<_}
+use Prim.Native.Nat.{ℕ, suc, _+_, _*_, _%_, _^_, _≤_, _<_}
 use lib.ListN.{length, getD, replicate}
 use Rattle.torus.specs.Sum.{sum, tabulate, joined}
 use Rattle.torus.specs.Word.{sub}
 use Rattle.torus.specs.Bytes.{words}
-use Rattle.ring.specs.Polynomial.{Degree, coefficients, product}
+use Rattle.ring.specs.Polynomial.{Degree, coefficients, product, rotated}
 use Rattle.trlwe.specs.Classes.{decode}
 
 -- Polynomial c of a list of polynomials of N words each: mask c of a sample, and its body where c is k; polynomial c of a key.
@@ -39,6 +39,10 @@ encryption N k key a errors f = a ++ tabulate N (body N k key a errors f)
 -- "A trivial sample has mask 0." Its body is the message f.
 unfoldable pub trivial : (N k : ℕ) (f : ℕ → ℕ) → List ℕ
 trivial N k f = replicate (k * N) 0 ++ tabulate N f
+
+-- X^(-r) times a sample: polynomial by polynomial, masks and body.
+unfoldable pub rotatedSample : (N k r : ℕ) (sample : List ℕ) → List ℕ
+rotatedSample N k r sample = polynomials N (suc k) (λ c. rotated N r (part N sample c))
 
 -- Decryption "lists what the phase's coefficients 0 to s - 1 decode to".
 unfoldable pub decrypted : (N k M s : ℕ) (key sample : List ℕ) → List ℕ

@@ -2,11 +2,12 @@
 // the public calls pass k = 1.
 use answers::Answer;
 ghost use mathlib.Core.Path.{_≡_};
-ghost use Prim.Native.Nat.{ℕ, _+_, _*_, _≤_, _<_};
+ghost use Prim.Native.Nat.{ℕ, suc, _+_, _*_, _≤_, _<_};
 ghost use lib.ListN.{length, getD};
 ghost use Rattle.torus.specs.Sum.{tabulate};
 ghost use Rattle.torus.specs.Word as W;
 ghost use Rattle.torus.specs.Bytes.{words};
+ghost use Rattle.ring.specs.Polynomial.{Degree};
 ghost use Rattle.answers.specs.Answers.{number};
 ghost use Rattle.answers.specs.Checks.{ClassNumber};
 ghost use Rattle.trlwe.specs.Classes as Classes;
@@ -304,4 +305,21 @@ pub fn decrypt_classes(n: u64, m: u64, s: u64, key: &[u8], sample: &[u8], classe
     }
     decrypt(classes, key, sample, 1, n as usize, m, s as usize);
     0
+}
+
+// ---- rotation
+
+// X^(-r) times a sample, polynomial by polynomial.
+pub fn rotate(out: &mut [u8], sample: &[u8], k: usize, n: usize, r: usize)
+    requires { ⌜ Degree n × (length (now out) ≡ 4 * (suc k * n)) × (length (now sample) ≡ 4 * (suc k * n)) × (r ≤ n) ⌝ }
+    ensures { λ _. ⌜ words (now (out .exit)) ≡ Sample.rotatedSample n k r (words (now (sample .entry))) ⌝ }
+{
+    let size = 4 * n;
+    let polynomials = k + 1;
+    let mut c = 0;
+    while c < polynomials {
+        let at = c * size;
+        ring::rotate(&mut out[at..at + size], &sample[at..at + size], n, r);
+        c += 1;
+    }
 }

@@ -19,7 +19,7 @@ shl-result c = search needs
 returns : tie.Need-returns
 returns c =
     let d = c .args .d in
-    let small : 2 ^ d ≤ 2 ^ 10 = pow-mono {i = d} {j = 10} (c .pre) in
+    let small : 2 ^ d ≤ 2 ^ 16 = pow-mono {i = d} {j = 16} (c .pre) in
     shl-exact {a = 1} 1 d 64 (omega arith) (omega arith) ∙ omega arith
 
 pub entries-spec : {M : Type 1} → statement M

@@ -59,7 +59,7 @@ evaluate-requires : tie.Need-evaluate-requires
 evaluate-requires c κs =
     let j = job (c .before .before .before .before) in
     let f = fit (c .before .before) .job in
-    (job-selectors j f, job-run j f, omega (arith, f .lengths .work-length))
+    (job-selectors j f, job-run j f, omega (arith, f .lengths .sample-length, f .lengths .work-length), omega (arith, f .lengths .work-length))
 
 same-length-3 : tie.Need-same-length-3
 same-length-3 c = search needs

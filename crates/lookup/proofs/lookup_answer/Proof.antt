@@ -1,8 +1,6 @@
 -- `lookup::lookup_answer` meets its contract. Assumes nothing.
 use native.Mathlib.Omega.{arith}
 use mathlib.Core.Path.{_≡_, ap₂, sym, _∙_}
-use Prim.Native.Nat.{_-_}
-use lib.Pow.{pow-pos}
 use Rattle.answers.specs.Answers.{noise}
 use Rattle.answers.proofs.Laws.{stopped, went-on}
 use Rattle.lookup.specs.Numbers.{LawfulNumbers, numbers}
@@ -66,11 +64,8 @@ charges-requires c κs =
     let j = job (c .before .before .before .before .before) in
     job-selectors j (wellformed j (numbers-passed (c .before .before .before .before)) (lengths-passed (c .before .before)) (contents-passed c))
 
-entries-requires : tie.Need-entries-requires
-entries-requires c κs = lawful (c .before .before .before .before .before) .depth
-
-sub-noise : tie.Need-sub-noise
-sub-noise c = omega (arith, c .entries .ensures, pow-pos (job (c .before .before .before .before .before .before .before) .numbers .d))
+gate-count-requires : tie.Need-gate-count-requires
+gate-count-requires c κs = lawful (c .before .before .before .before .before)
 
 noise-requires : tie.Need-noise-requires
 noise-requires c κs = omega (arith, lawful (c .before .before .before .before .before .before) .class-number .least)
@@ -79,7 +74,7 @@ returns-4 : tie.Need-returns-4
 returns-4 c =
     let judged = c .before .before .before in
     let j = job (judged .before .before .before .before .before) in
-    c .noise .ensures ∙ ap₂ (λ b e. noise (j .numbers .M) b (e - 1)) (c .before .before .charges .ensures) (c .before .entries .ensures)
+    c .noise .ensures ∙ ap₂ (λ b e. noise (j .numbers .M) b e) (c .before .before .charges .ensures) (c .before .gate-count .ensures)
     ∙ sym (went-on _ _ (contents-passed judged))
     ∙ sym (went-on _ _ (lengths-passed (judged .before .before)))
     ∙ sym (went-on _ _ (numbers-passed (judged .before .before .before .before)))
@@ -96,7 +91,6 @@ lookup-answer-spec =
     check-contents-requires
     returns-3
     charges-requires
-    entries-requires
-    sub-noise
+    gate-count-requires
     noise-requires
     returns-4)

@@ -5,6 +5,7 @@ use Prim.Native.Nat.{_+_, _*_, _≤_}
 use native.Mathlib.Nat.{mul-le-mul}
 use lib.ListN.{length}
 use Rattle.answers.specs.Checks as Check
+use Rattle.lookup.proofs.Packings.{depth-le}
 use borrow.Author.Needs.{needs}
 use Rattle.lookup.proofs.checks.check_lengths.Statement.{statement}
 use Rattle.lookup.proofs.checks.check_lengths.Tie as tie
@@ -16,6 +17,13 @@ start c = c .before .before .before .before .before .before
 abbrev start-2 : tie.After-block-size → tie.Start
 start-2 c = start (c .before .before .before .before .before .before .before .before .before .before)
 
+-- In either packing there are at most sixteen selectors.
+deep : (c : tie.After-sample-size) → start c .args .x .d ≤ 16
+deep c = depth-le (start c .args .x) (start c .pre)
+
+deep-2 : (c : tie.After-block-size) → start-2 c .args .x .d ≤ 16
+deep-2 c = depth-le (start-2 c .args .x) (start-2 c .pre)
+
 sample-size-requires : tie.Need-sample-size-requires
 sample-size-requires c κs = search needs
 
@@ -23,12 +31,12 @@ exact-requires : tie.Need-exact-requires
 exact-requires c κs = search needs
 
 add-exact : tie.Need-add-exact
-add-exact c = record { fits = omega (arith, start (c .before .before) .pre .depth) }
+add-exact c = record { fits = omega (arith, deep (c .before .before)) }
 
 mul-exact : tie.Need-mul-exact
 mul-exact c =
-    let levels : start (c .before .before) .args .x .d + 1 ≤ 11 = omega (arith, start (c .before .before) .pre .depth) in
-    record { fits = omega (arith, mul-le-mul (c .before .before .sample-size .ensures .1) levels) }
+    let kept : start (c .before .before) .args .x .d + 1 ≤ 17 = omega (arith, deep (c .before .before)) in
+    record { fits = omega (arith, mul-le-mul (c .before .before .sample-size .ensures .1) kept) }
 
 exact-requires-2 : tie.Need-exact-requires-2
 exact-requires-2 c κs = search needs
@@ -55,7 +63,7 @@ block-size-requires : tie.Need-block-size-requires
 block-size-requires c κs = search needs
 
 mul-exact-2 : tie.Need-mul-exact-2
-mul-exact-2 c = record { fits = omega (arith, mul-le-mul (start-2 (c .before) .pre .depth) (c .before .block-size .ensures .1)) }
+mul-exact-2 c = record { fits = omega (arith, mul-le-mul (deep-2 (c .before)) (c .before .block-size .ensures .1)) }
 
 exact-requires-5 : tie.Need-exact-requires-5
 exact-requires-5 c κs = search needs

@@ -1,12 +1,18 @@
 -- `lookup::checks::check_numbers` meets its contract. Assumes nothing.
-use mathlib.Core.Path.{ap₂, _∙_}
+use mathlib.Core.Path.{ap, ap₂, _∙_}
 use borrow.Author.Needs.{needs}
 use Rattle.answers.specs.Checks as Check
 use Rattle.lookup.proofs.checks.check_numbers.Statement.{statement}
 use Rattle.lookup.proofs.checks.check_numbers.Tie as tie
 
+most-classes-requires : tie.Need-most-classes-requires
+most-classes-requires c κs = search needs
+
 count-requires : tie.Need-count-requires
 count-requires c κs = search needs
+
+most-selectors-requires : tie.Need-most-selectors-requires
+most-selectors-requires c κs = search needs
 
 depth-requires : tie.Need-depth-requires
 depth-requires c κs = search needs
@@ -34,6 +40,9 @@ first-requires-4 c κs = search needs
 
 returns : tie.Need-returns
 returns c =
+    let chosen = c .before .before .before .before .before .before .before in
+    let counted = chosen .before .before in
+    let x = counted .before .before .args .x in
     c .first4 .ensures
     ∙ ap₂ Check.first (c .before .degree .ensures)
     (c .before .before .first3 .ensures
@@ -41,13 +50,16 @@ returns c =
     (c .before .before .before .before .first2 .ensures
     ∙ ap₂ Check.first (c .before .before .before .before .before .class-number .ensures)
     (c .before .before .before .before .before .before .first .ensures
-    ∙ ap₂ Check.first (c .before .before .before .before .before .before .before .before .count .ensures) (c .before .before .before .before .before .before .before .depth .ensures))))
+    ∙ ap₂ Check.first (counted .count .ensures ∙ ap (λ most. Check.count most (x .s)) (counted .before .most-classes .ensures))
+    (chosen .depth .ensures ∙ ap (λ most. Check.depth most (x .d)) (chosen .before .most-selectors .ensures)))))
 
 pub check-numbers-spec : {M : Type 1} → statement M
 check-numbers-spec =
     tie.close
     (tie.spec
+    most-classes-requires
     count-requires
+    most-selectors-requires
     depth-requires
     first-requires
     class-number-requires
