@@ -1,16 +1,24 @@
 -- The file that is made of a job: "Words, lowest byte first, sections in fixed order, each after its count."
 -- Assumes nothing.
 use mathlib.Core.Path.{_≡_}
+use mathlib.Core.Bool.{cond, _&&_}
 use mathlib.Core.List.{List, [], _∷_, _++_}
 use Prim.Native.Nat.{ℕ, _+_, _*_, _^_, _≤_, _<_}
+use lib.Dec.{eqb, ltb}
 use lib.ListN.{length, getD, replicate}
 use Rattle.torus.specs.Sum.{joined}
 use Rattle.torus.specs.Bytes.{AreBytes, words, bytes}
 use Rattle.trgsw.specs.Parameters.{sampleSize, blockSize}
+use Rattle.lookup.specs.declared.Packing.{Packing}
+use Rattle.lookup.specs.declared.Packing.the-variants.{Horizontal, Vertical}
 use Rattle.lookup.specs.declared.Numbers.{Numbers}
 use Rattle.lookup.specs.Numbers.{LawfulNumbers, parameters, tableSize}
 use Rattle.lookup.specs.Job.{Job}
 use Rattle.lookup.specs.Lookup.{selector}
+
+-- The packing of a file's job. "A job file uses it when s is 1 and d is above 10": the vertical one.
+unfoldable pub filePacking : (s d : ℕ) → Packing
+filePacking s d = cond (eqb s 1 && ltb 10 d) Vertical Horizontal
 
 -- "Section one: count 5, then N, g, L, M, s."
 abbrev pub sectionOne : Numbers → List ℕ
@@ -44,8 +52,10 @@ fileJob x blocks amplitudes classes = record {
   work = replicate (4 * (sampleSize (parameters x) * (x .d + 1))) 0;
 }
 
--- A job that a file can be made of: its numbers are words, its parts have the lengths that these give and are bytes.
+-- A job that a file can be made of: its packing is the one that its numbers give, these are words, its parts have the lengths that they
+-- give and are bytes.
 pub record Whole (j : Job) : Type 0 where
+  pub packing : j .numbers .packing ≡ filePacking (j .numbers .s) (j .numbers .d)
   pub of-words : (i : ℕ) → getD (fileWords j) i 0 < 2 ^ 32
   pub blocks-length : length (j .blocks) ≡ 4 * (j .numbers .d * blockSize (parameters (j .numbers)))
   pub amplitudes-length : length (j .amplitudes) ≡ 4 * j .numbers .d

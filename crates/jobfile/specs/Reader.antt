@@ -16,7 +16,7 @@ use Rattle.lookup.specs.Numbers.{parameters, tableSize, numbers}
 use Rattle.trgsw.specs.Parameters.{blockSize}
 use Rattle.lookup.specs.Job.{Job}
 use Rattle.lookup.specs.Calls.{lookup, lookupSample}
-use Rattle.jobfile.specs.File.{fileJob}
+use Rattle.jobfile.specs.File.{filePacking, fileJob}
 use Rattle.jobfile.specs.declared.Outcome.{Outcome}
 
 -- What stands behind the count d, which is word 6: d selectors, then section three.
@@ -45,7 +45,15 @@ readClasses b d ws = drop 1 (tablePart b d ws)
 unfoldable pub readJob : (file : List ℕ) → Job
 readJob file =
     let ws = words file in
-    let x : Numbers = record { N = getD ws 1 0; g = getD ws 2 0; L = getD ws 3 0; M = getD ws 4 0; s = getD ws 5 0; d = getD ws 6 0 } in
+    let x : Numbers = record {
+      packing = filePacking (getD ws 5 0) (getD ws 6 0);
+      N = getD ws 1 0;
+      g = getD ws 2 0;
+      L = getD ws 3 0;
+      M = getD ws 4 0;
+      s = getD ws 5 0;
+      d = getD ws 6 0;
+    } in
     let b = blockSize (parameters x) in
     fileJob x (bytes (readBlocks b (x .d) (behind file))) (bytes (readAmplitudes b (x .d) (behind file))) (bytes (readClasses b (x .d) (behind file)))
 

@@ -1,10 +1,12 @@
 // The checks that a file must pass before its lookup begins, and its numbers.
 use lookup::Numbers;
+use lookup::Packing;
 ghost use mathlib.Core.Path.{_≡_};
 ghost use Prim.Native.Nat.{_+_, _*_, _≤_};
 ghost use lib.ListN.{length, getD};
 ghost use Rattle.torus.specs.Bytes.{words};
 ghost use Rattle.lookup.specs.Numbers.{LawfulNumbers};
+ghost use Rattle.jobfile.specs.File.{filePacking};
 ghost use Rattle.jobfile.specs.Reader as Reader;
 
 // Word i of the file.
@@ -34,7 +36,19 @@ fn beginning(file: &[u8]) -> u32
     0
 }
 
-// Words 1 to 6.
+// The packing of a file's job: the vertical one where s is 1 and d is above 10.
+fn file_packing(s: u64, d: u64) -> Packing
+    ensures { λ r. ⌜ r ≡ filePacking s d ⌝ }
+{
+    if s == 1 {
+        if 10 < d {
+            return Packing::Vertical;
+        }
+    }
+    Packing::Horizontal
+}
+
+// Words 1 to 6, and the packing that they give.
 pub fn read_numbers(file: &[u8]) -> Numbers
     requires { ⌜ 28 ≤ length (now file) ⌝ }
     ensures { λ r. ⌜ r ≡ Reader.readJob (now (file .entry)) .numbers ⌝ }
@@ -46,6 +60,7 @@ pub fn read_numbers(file: &[u8]) -> Numbers
     let s = number_at(file, 5);
     let d = number_at(file, 6);
     Numbers {
+        packing: file_packing(s, d),
         N: n,
         g,
         L: l,

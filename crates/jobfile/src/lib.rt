@@ -23,18 +23,18 @@ pub struct Outcome {
     pub sample: [u8; 8192],
 }
 
-// Rooms for the largest sample, for the work of ten selectors over it, for all blocks that a file can have, and for ten amplitudes. They
-// are functions of their own, so that a proof sees their lengths and not their bytes.
+// Rooms for the largest sample, for the work of sixteen selectors over it, for all blocks that a file can have, and for sixteen amplitudes.
+// They are functions of their own, so that a proof sees their lengths and not their bytes.
 fn sample_room() -> [u8; 8192]
     ensures { λ r. ⌜ 8192 ≡ length r ⌝ }
 {
     [0; 8192]
 }
 
-fn work_room() -> [u8; 90112]
-    ensures { λ r. ⌜ 90112 ≡ length r ⌝ }
+fn work_room() -> [u8; 139264]
+    ensures { λ r. ⌜ 139264 ≡ length r ⌝ }
 {
-    [0; 90112]
+    [0; 139264]
 }
 
 fn blocks_room() -> [u8; 65536]
@@ -43,10 +43,10 @@ fn blocks_room() -> [u8; 65536]
     [0; 65536]
 }
 
-fn amplitudes_room() -> [u8; 40]
-    ensures { λ r. ⌜ 40 ≡ length r ⌝ }
+fn amplitudes_room() -> [u8; 64]
+    ensures { λ r. ⌜ 64 ≡ length r ⌝ }
 {
-    [0; 40]
+    [0; 64]
 }
 
 // The lookup of a job that is taken apart.

@@ -9,6 +9,7 @@ use Rattle.trgsw.specs.Parameters.{sampleSize}
 use Rattle.lookup.specs.declared.Numbers.{Numbers}
 use Rattle.lookup.specs.Numbers.{LawfulNumbers, masks, parameters}
 use Rattle.lookup.specs.Job.{Job}
+use Rattle.lookup.proofs.Packings.{depth-le}
 use Rattle.jobfile.proofs.Lent.{tells-refused, tells-accepted}
 use borrow.Author.Needs.{needs}
 use Rattle.jobfile.proofs.evaluate.Statement.{statement}
@@ -20,10 +21,10 @@ unfolding masks
 sample-fits x ok = omega (arith, ok .degree .most)
 
 -- and the work slice fits its own.
-work-fits : (x : Numbers) → LawfulNumbers x → 4 * sampleSize (parameters x) * (x .d + 1) ≤ 90112
+work-fits : (x : Numbers) → LawfulNumbers x → 4 * sampleSize (parameters x) * (x .d + 1) ≤ 139264
 work-fits x ok =
-    let levels : x .d + 1 ≤ 11 = omega (arith, ok .depth) in
-    mul-le-mul (sample-fits x ok) levels
+    let kept : x .d + 1 ≤ 17 = omega (arith, depth-le x ok) in
+    mul-le-mul (sample-fits x ok) kept
 
 abbrev start : tie.After-sample-size → tie.Start
 start c = c .before .before .before .before .before .before
@@ -35,7 +36,7 @@ own c = c .sample-size .ensures .0
 sample-small : (c : tie.After-sample-size) → 4 * c .sample-size .result ≤ 8192
 sample-small c = rw (own c) (sample-fits (start c .args .x) (start c .pre))
 
-work-small : (c : tie.After-sample-size) → 4 * c .sample-size .result * (start c .args .x .d + 1) ≤ 90112
+work-small : (c : tie.After-sample-size) → 4 * c .sample-size .result * (start c .args .x .d + 1) ≤ 139264
 work-small c =
     let x = start c .args .x in
     omega (arith, work-fits x (start c .pre), ap (λ (n : ℕ). 4 * n * (x .d + 1)) (own c))
@@ -67,7 +68,7 @@ mul-size : tie.Need-mul-size
 mul-size c = omega (arith, sample-small c)
 
 add-room : tie.Need-add-room
-add-room c = search needs
+add-room c = omega (arith, depth-le (start c .args .x) (start c .pre))
 
 mul-room : tie.Need-mul-room
 mul-room c = omega (arith, work-small c)

@@ -4,6 +4,7 @@ use mathlib.Core.Path.{ap, _∙_}
 use Prim.Native.Nat.{_*_, _≤_}
 use Rattle.torus.proofs.Parts.{front-length}
 use Rattle.lookup.specs.Numbers.{LawfulNumbers}
+use Rattle.lookup.proofs.Packings.{depth-le}
 use Rattle.jobfile.proofs.Held.{held-lawful, held-size}
 use borrow.Author.Needs.{needs}
 use Rattle.jobfile.proofs.look_up.Statement.{statement}
@@ -14,11 +15,11 @@ lawful s = held-lawful (s .args .file .now) (s .args .x) (s .pre .0) (s .pre .1)
 
 -- The blocks and the amplitudes fit their rooms.
 fits : (c : tie.After-block-size) → let x = c .before .before .before .before .args .x in
-    (4 * (x .d * c .block-size .result) ≤ 65536) × (4 * x .d ≤ 40)
+    (4 * (x .d * c .block-size .result) ≤ 65536) × (4 * x .d ≤ 64)
 fits c =
     let s = c .before .before .before .before in
     let size = held-size (s .args .file .now) (s .args .x) (s .pre .0) (s .pre .1) (c .block-size .result) (c .block-size .ensures .0) in
-    (omega (arith, size), omega (arith, lawful s .depth))
+    (omega (arith, size), omega (arith, depth-le (s .args .x) (lawful s)))
 
 blocks-room-requires : tie.Need-blocks-room-requires
 blocks-room-requires c κs = search needs

@@ -11,16 +11,17 @@ use Rattle.answers.specs.Checks as Check
 use Rattle.answers.proofs.Laws.{first-passed, exact-met}
 use Rattle.lookup.specs.Numbers.{parameters, tableSize}
 use Rattle.trgsw.specs.Parameters.{blockSize}
+use Rattle.lookup.proofs.Packings.{depth-le}
 use Rattle.jobfile.specs.Reader.{behind, tablePart, fileSize}
 use Rattle.jobfile.proofs.Sections.{count-at}
 use Rattle.jobfile.proofs.checks.check_sections.Statement.{statement}
 use Rattle.jobfile.proofs.checks.check_sections.Tie as tie
 
 -- Section two has few enough words.
-small : (c : tie.After-block-size) → c .before .before .args .x .d * (1 + c .block-size .result) ≤ 8192010
+small : (c : tie.After-block-size) → c .before .before .args .x .d * (1 + c .block-size .result) ≤ 13107216
 small c =
     let few : 1 + c .block-size .result ≤ 819201 = omega (arith, c .block-size .ensures .1) in
-    mul-le-mul (c .before .before .pre .depth) few
+    mul-le-mul (depth-le (c .before .before .args .x) (c .before .before .pre)) few
 
 -- How many words it has, and how many bytes the whole file.
 selectors : (c : tie.After-block-size) → let x = c .before .before .args .x in

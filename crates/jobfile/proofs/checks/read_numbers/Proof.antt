@@ -22,15 +22,19 @@ number-at-requires-5 c κs = search needs
 number-at-requires-6 : tie.Need-number-at-requires-6
 number-at-requires-6 c κs = search needs
 
+file-packing-requires : tie.Need-file-packing-requires
+file-packing-requires c κs = search needs
+
 returns : tie.Need-returns
 unfolding readJob
 returns c = rw (
-  c .before .before .before .before .before .number-at .ensures,
-  c .before .before .before .before .number-at2 .ensures,
-  c .before .before .before .number-at3 .ensures,
-  c .before .before .number-at4 .ensures,
-  c .before .number-at5 .ensures,
-  c .number-at6 .ensures,
+  c .file-packing .ensures,
+  c .before .before .before .before .before .before .number-at .ensures,
+  c .before .before .before .before .before .number-at2 .ensures,
+  c .before .before .before .before .number-at3 .ensures,
+  c .before .before .before .number-at4 .ensures,
+  c .before .before .number-at5 .ensures,
+  c .before .number-at6 .ensures,
 )
 
 pub read-numbers-spec : {M : Type 1} → statement M
@@ -43,4 +47,5 @@ read-numbers-spec =
     number-at-requires-4
     number-at-requires-5
     number-at-requires-6
+    file-packing-requires
     returns)
