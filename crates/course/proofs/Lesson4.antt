@@ -11,6 +11,7 @@ use Rattle.torus.specs.Sum.{sum}
 use Rattle.torus.specs.Bytes.{words}
 use Rattle.answers.specs.Answers.{bound}
 use Rattle.trgsw.specs.declared.Parameters.{Parameters}
+use Rattle.lookup.specs.declared.Packing.the-variants.{Horizontal}
 use Rattle.lookup.specs.declared.Numbers.{Numbers}
 use Rattle.lookup.specs.Numbers.{parameters}
 use Rattle.lookup.specs.Tree.{tree, entryNumber}
@@ -32,7 +33,7 @@ entry-five = refl
 
 -- Numbers of such a lookup.
 abbrev pub pairs : Numbers
-pairs = record { N = 2; g = 8; L = 2; M = 16; s = 2; d = 3 }
+pairs = record { packing = Horizontal; N = 2; g = 8; L = 2; M = 16; s = 2; d = 3 }
 
 pub classes-of-five :
     entryClasses pairs (entryNumber bits 3) (0 ∷ 1 ∷ 2 ∷ 3 ∷ 4 ∷ 5 ∷ 6 ∷ 7 ∷ 8 ∷ 9 ∷ 10 ∷ 11 ∷ 12 ∷ 13 ∷ 14 ∷ 15 ∷ []) ≡ 10 ∷ 11 ∷ []

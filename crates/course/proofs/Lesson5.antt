@@ -10,14 +10,15 @@ use Rattle.torus.specs.Bytes.{words, bytes}
 use Rattle.answers.specs.Answers.{number, bound, gates, _orElse_}
 use Rattle.answers.specs.Checks.{allBelow}
 use Rattle.answers.specs.declared.Answer.the-variants.{Refused}
+use Rattle.lookup.specs.declared.Packing.the-variants.{Horizontal}
 use Rattle.lookup.specs.Lookup.{charges}
-use Rattle.lookup.specs.Numbers.{masks}
+use Rattle.lookup.specs.Numbers.{masks, rotations}
 use Rattle.lookup.specs.Job.{Job}
 use Rattle.lookup.specs.Calls.{lookup}
 use Rattle.lookup.proofs.Instance.{numbersJ}
 use Rattle.report.specs.Text.{ascii, decimal, decimalUpTo}
 use Rattle.report.specs.Report.{numbers, line, answerLines}
-use Rattle.jobfile.specs.File.{jobFile, Whole}
+use Rattle.jobfile.specs.File.{filePacking, jobFile, Whole}
 use Rattle.jobfile.specs.Reader.{Begins, readJob, fileSize, fileRefusal, jobAnswer}
 use Rattle.jobfile.specs.Output.{output}
 use Rattle.jobfile.proofs.Passed.{Passes, beginning-met, refusal-held}
@@ -30,7 +31,7 @@ pub size-J : fileSize numbersJ ≡ 19
 unfolding masks
 size-J = refl
 
-pub size-larger : fileSize (record { N = 4; g = 8; L = 3; M = 16; s = 2; d = 3 }) ≡ 171
+pub size-larger : fileSize (record { packing = Horizontal; N = 4; g = 8; L = 3; M = 16; s = 2; d = 3 }) ≡ 171
 unfolding masks
 size-larger = refl
 
@@ -43,12 +44,12 @@ abbrev pub whole : List ℕ
 whole = 5 ∷ 1 ∷ 16 ∷ 2 ∷ 16 ∷ 1 ∷ 0 ∷ 1 ∷ 8 ∷ []
 
 pub start-refused : jobAnswer (bytes start) ≡ Refused 5
-unfolding jobAnswer fileRefusal readJob masks _orElse_ words bytes ones joined tabulate
+unfolding jobAnswer fileRefusal readJob filePacking rotations masks _orElse_ words bytes ones joined tabulate
 start-refused = refl
 
 pub whole-accepted : (number (jobAnswer (bytes whole)) ≡ 0)
     × (bound (jobAnswer (bytes whole)) ≡ 0) × (gates (jobAnswer (bytes whole)) ≡ 0)
-unfolding jobAnswer fileRefusal readJob masks lookup _orElse_ charges sum words bytes ones allBelow joined tabulate
+unfolding jobAnswer fileRefusal readJob filePacking rotations masks lookup _orElse_ charges sum words bytes ones allBelow joined tabulate
 whole-accepted = (refl, refl, refl)
 
 -- Exercise 5.3. A file that begins as a job file does and has N = 3 is answered 1, whatever else it holds; and this is what is

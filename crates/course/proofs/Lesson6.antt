@@ -1,7 +1,7 @@
 -- Lesson 6, the calls for C: the exercises, each with its solution. The functions of exercises 6.4 and 6.7 are in src/lib.rt,
 -- their proofs in proofs/equal_charges and proofs/negate_coefficient.
 -- Assumes nothing.
-use mathlib.Core.Path.{_≡_, refl, ap, sym, _∙_, subst}
+use mathlib.Core.Path.{_≡_, refl, ap, ap₂, sym, _∙_, subst}
 use mathlib.Core.List.{List, [], _∷_}
 use Prim.Native.Nat.{ℕ, _-_, _*_, _/_, _^_, _<_}
 use lib.Count.{ones}
@@ -24,6 +24,8 @@ use Rattle.trgsw.specs.Parameters.{charge}
 use Rattle.lookup.specs.Lookup.{charges}
 use Rattle.lookup.specs.Job.{Job}
 use Rattle.lookup.specs.Calls.{lookup}
+use Rattle.lookup.specs.declared.Packing.the-variants.{Horizontal}
+use Rattle.lookup.proofs.Packings.{horizontal-gates, horizontal-depth}
 use Rattle.lookup.proofs.Accepted.{Wellformed, lookup-noise}
 use Rattle.course.specs.Definitions.{negative, equalCharges, negateCoefficient, negateCoefficientSlice}
 
@@ -73,22 +75,22 @@ pub equal-accepted : (M d c : ℕ) → number (equalCharges M d c) ≡ 0 → d *
 unfolding equalCharges
 equal-accepted M d c e =
     let rest = before (Check.classNumber M) _ e .1 in
-    noise-held M (d * c) (2 ^ d - 1) (before (Check.depth d) _ rest .1)
+    noise-held M (d * c) (2 ^ d - 1) (before (Check.depth 10 d) _ rest .1)
 
--- Exercise 6.6. `equalCharges` answers as the lookup does: if all d amplitudes are A and refusals 1 to 7 are passed, the
--- lookup's whole answer is that of `equalCharges` with the charge of A.
+-- Exercise 6.6. `equalCharges` answers as the lookup in the horizontal packing does: if all d amplitudes are A and refusals 1 to 7 are
+-- passed, the lookup's whole answer is that of `equalCharges` with the charge of A.
 pub charges-equal : (p : Parameters) (A d : ℕ) (As : List ℕ) → ((i : ℕ) → i < d → getD As i 0 ≡ A) → charges p As d ≡ d * charge p A
 unfolding charges
 charges-equal p A d As same = sum-cong d _ (λ i. charge p A) (λ i l. ap (charge p) (same i l)) ∙ sum-const d (charge p A)
 
-pub lookup-equal : (j : Job) (A : ℕ) → let x = j .numbers in Wellformed j → ((i : ℕ) → i < x .d → getD (words (j .amplitudes)) i 0 ≡ A)
+pub lookup-equal : (j : Job) (A : ℕ) → let x = j .numbers in x .packing ≡ Horizontal → Wellformed j → ((i : ℕ) → i < x .d → getD (words (j .amplitudes)) i 0 ≡ A)
     → lookup j ≡ equalCharges (x .M) (x .d) (charge (parameters x) A)
 unfolding equalCharges
-lookup-equal j A ok same =
+lookup-equal j A horizontal ok same =
     let x = j .numbers in
     lookup-noise j ok
-    ∙ ap (λ b. noise (x .M) b (2 ^ x .d - 1)) (charges-equal (parameters x) A (x .d) (words (j .amplitudes)) same)
-    ∙ sym (went-on _ _ (class-number-met (x .M) (ok .numbers .class-number)) ∙ went-on _ _ (depth-met (x .d) (ok .numbers .depth)))
+    ∙ ap₂ (noise (x .M)) (charges-equal (parameters x) A (x .d) (words (j .amplitudes)) same) (horizontal-gates x horizontal)
+    ∙ sym (went-on _ _ (class-number-met (x .M) (ok .numbers .class-number)) ∙ went-on _ _ (depth-met 10 (x .d) (horizontal-depth x (ok .numbers) horizontal)))
 
 -- Exercise 6.7. Write a call in small, `negate_coefficient`: it judges N, p and the length of a slice, and negates coefficient
 -- p in the slice, or refuses and changes nothing. Its contract has no premise. Compute first what `negateCoefficient` says of

@@ -43,9 +43,9 @@ deepest i x₀ x₁ = max x₀ x₁ + 1
 
 -- ---- lesson 6
 
--- The answer of a lookup of d selectors that all have the charge c, as far as M, d and c decide it.
+-- The answer of a lookup in the horizontal packing, of d selectors that all have the charge c, as far as M, d and c decide it.
 unfoldable pub equalCharges : (M d c : ℕ) → Answer
-equalCharges M d c = Check.classNumber M orElse Check.depth d orElse noise M (d * c) (2 ^ d - 1)
+equalCharges M d c = Check.classNumber M orElse Check.depth 10 d orElse noise M (d * c) (2 ^ d - 1)
 
 -- A call in small: coefficient p of a polynomial of degree N is negated in its slice. Its answer, and what it leaves there.
 unfoldable pub negateCoefficient : (N p : ℕ) (slice : List ℕ) → Answer

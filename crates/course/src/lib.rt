@@ -40,7 +40,7 @@ pub fn tree_gates(d: u64) -> u64
 pub fn equal_charges(m: u64, d: u64, c: u32) -> Answer
     ensures { λ r. ⌜ r ≡ Course.equalCharges m d c ⌝ }
 {
-    let fault = answers::first(answers::class_number(m), answers::depth(d));
+    let fault = answers::first(answers::class_number(m), answers::depth(10, d));
     if fault != 0 {
         return Answer::Refused(fault);
     }

@@ -13,12 +13,12 @@ use Rattle.course.proofs.equal_charges.Tie as tie
 
 -- What the two checks give together.
 fault : (c : tie.After-first) → let s = c .before .before .before .args in
-    c .first .result ≡ Check.first (Check.classNumber (s .m)) (Check.depth (s .d))
+    c .first .result ≡ Check.first (Check.classNumber (s .m)) (Check.depth 10 (s .d))
 fault c = c .first .ensures ∙ ap₂ Check.first (c .before .before .class-number .ensures) (c .before .depth .ensures)
 
 -- Past them, both have passed.
 passed : (c : tie.Else1) → let s = c .before .before .before .before .args in
-    (Check.classNumber (s .m) ≡ 0) × (Check.depth (s .d) ≡ 0)
+    (Check.classNumber (s .m) ≡ 0) × (Check.depth 10 (s .d) ≡ 0)
 passed c = first-none _ _ (sym (fault (c .before)) ∙ c .if1 .left)
 
 class-number-requires : tie.Need-class-number-requires
@@ -38,10 +38,10 @@ mul-noise : tie.Need-mul-noise
 mul-noise c =
     let s = c .before .before .before .before .args in
     let word : s .c ≤ 4294967295 = omega arith in
-    omega (arith, mul-le-mul (depth-held (s .d) (passed c .1)) word)
+    omega (arith, mul-le-mul (depth-held 10 (s .d) (passed c .1)) word)
 
 tree-gates-requires : tie.Need-tree-gates-requires
-tree-gates-requires c κs = omega (arith, depth-held (c .before .before .before .before .args .d) (passed c .1))
+tree-gates-requires c κs = omega (arith, depth-held 10 (c .before .before .before .before .args .d) (passed c .1))
 
 noise-requires : tie.Need-noise-requires
 noise-requires c κs = omega (arith, class-number-held _ (passed (c .before) .0) .least)
