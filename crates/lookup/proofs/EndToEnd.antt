@@ -21,7 +21,7 @@ use Rattle.trgsw.specs.Parameters.{blockSize, Holds}
 use Rattle.lookup.specs.Lookup.{selector}
 use Rattle.lookup.specs.Job.{Job}
 use Rattle.lookup.specs.Calls.{lookup, lookupSample, IsAccepted}
-use Rattle.lookup.specs.Rule.{Accurate, Made, Encrypted}
+use Rattle.lookup.specs.Rule.{Premises, Accurate, Made, Encrypted}
 use Rattle.lookup.proofs.Accuracy.{accuracy}
 
 -- Selector i of the lent blocks is the block at its place.
@@ -36,19 +36,25 @@ made-holds x m key masks errors room block amplitude made =
     let holds = selector-holds (x .N) (x .g) (x .L) m key masks errors room (made .are-bytes) (made .accepted) in
     rw (made .left) (λ r i lr li. le-trans (holds r i lr li) (made .declared))
 
--- An accepted job whose blocks come from encryption is answered accurately.
-pub encrypted-lookup : (j : Job) (bits : ℕ → ℕ) (masks errors room : ℕ → List ℕ) (key out : List ℕ) → IsAccepted j
-    → Encrypted j bits masks errors room key out → Accurate j bits key out (lookup j) (lookupSample j)
+-- A job whose blocks come from encryption meets the premises of the accuracy rule.
+pub encrypted-premises : (j : Job) (bits : ℕ → ℕ) (masks errors room : ℕ → List ℕ) (key out : List ℕ) → Encrypted j bits masks errors room key out
+    → Premises j bits key out
 unfolding masks
-encrypted-lookup j bits masks errors room key out accepted given =
+encrypted-premises j bits masks errors room key out given =
     let x = j .numbers in
     let p = parameters x in
     let bytes-of : 16 * x .L * x .N ≡ 4 * blockSize p = omega arith in
-    accuracy j accepted bits key out (record {
+    record {
       key-fits = given .key-fits;
       bit = λ i l. selector-accepted (x .N) (x .g) (x .L) (bits i) key _ _ _ (given .made i l .accepted) .bit;
       holds = λ i l. subst (λ block. Holds p (bits i) (getD (words (j .amplitudes)) i 0) (words key) block)
           (ap (λ n. words (chunk n i (j .blocks))) bytes-of ∙ selector-lent p i (j .blocks))
           (made-holds x (bits i) key _ _ _ _ _ (given .made i l));
       out-length = given .out-length;
-    })
+    }
+
+-- So if it is accepted, it is answered accurately.
+pub encrypted-lookup : (j : Job) (bits : ℕ → ℕ) (masks errors room : ℕ → List ℕ) (key out : List ℕ) → IsAccepted j
+    → Encrypted j bits masks errors room key out → Accurate j bits key out (lookup j) (lookupSample j)
+encrypted-lookup j bits masks errors room key out accepted given =
+    accuracy j accepted bits key out (encrypted-premises j bits masks errors room key out given)

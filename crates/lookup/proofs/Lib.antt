@@ -11,6 +11,7 @@ pub mod Accuracy
 pub mod EndToEnd
 pub mod Instance
 pub mod PackedInstance
+pub mod PackingInstances
 pub mod Charges
 pub mod Runs
 pub mod Public

@@ -36,7 +36,7 @@ use Rattle.lookup.proofs.EndToEnd.{encrypted-lookup}
 use Rattle.lookup.proofs.Instance.{bitsFE}
 
 -- With N = 2 there are two coefficients, and with d = 2 two selectors.
-at-01 : (P : ℕ → Type 0) → P 0 → P 1 → (i : ℕ) → i < 2 → P i
+pub at-01 : (P : ℕ → Type 0) → P 0 → P 1 → (i : ℕ) → i < 2 → P i
 at-01 P p q zero l = p
 at-01 P p q (suc zero) l = q
 at-01 P p q (suc (suc i)) l = absurd (omega arith)
