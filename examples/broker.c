@@ -4,136 +4,32 @@
  *
  *   make -C examples run
  */
-#include <inttypes.h>
-#include <stdio.h>
-#include <stdlib.h>
-#include "broker.h"
-#include "cikenuma.h"
-
-/* Degree; the gadget's base 2^G and its number of digits; selectors; classes in an entry; the greatest error. */
 enum { N = 512, G = 8, L = 2, D = 6, S = 3, NOISE = 3 };
+#include "portal.h"
 
-/* Words in the masks of a block's rows, and in their errors; bytes in a block. */
-enum { ROWS = 2 * L * N, BLOCK = WORD * 2 * ROWS };
-
-/* What stays with the broker: the key, the state of the source of randomness, and what is drawn for one block. */
-struct broker {
-    uint64_t source;
-    uint8_t key[WORD * N], masks[WORD * ROWS], errors[WORD * ROWS];
-};
-
-/* What the broker sends: the selectors' blocks, and the amplitude of each. */
-struct request {
-    uint8_t blocks[D * BLOCK], amplitudes[WORD * D];
-};
-
-/* What the lessor publishes: how many classes there are, and S of them for each of 2^D entries. */
-struct table {
-    uint64_t M;
-    uint8_t classes[WORD * (S << D)];
-};
-
-/* What the evaluator sends back. If the answer is 0: the sample, and the rate class alone as a scalar sample. */
-struct reply {
-    uint32_t answer;
-    uint64_t bound, gates;
-    uint8_t sample[WORD * 2 * N], rate[WORD * (N + 1)];
-};
-
-/* What the broker decrypts. */
-struct quote {
-    uint8_t classes[WORD * S], rate[WORD];
-};
-
-/* The classes of an entry, in the order in which they stand there. */
-enum { RATE, DEPOSIT, INSURANCE };
+/* The classes of an entry, in the order in which they stand there: after the rate come two more. */
+enum { DEPOSIT = RATE + 1, INSURANCE };
 static const char *const names[S] = {"rate", "deposit", "insurance"};
 
-/* A question takes some binary digits of an entry's number, from digit `first` on. */
 enum { MILES, YEARS, LATE, PAID, QUESTIONS };
-static const struct {
-    const char *text;
-    unsigned first, digits;
-    const char *choices[4];
-} questions[QUESTIONS] = {
+static const struct question questions[QUESTIONS] = {
     {"Miles a year", 0, 2, {"under 10,000", "10,000 to 20,000", "20,000 to 30,000", "over 30,000"}},
     {"Three years in business", 2, 1, {"no", "yes"}},
     {"Late payments in two years", 3, 2, {"none", "one", "two or three", "four or more"}},
     {"Deposit paid", 5, 1, {"no", "yes"}},
 };
 
-/* The choice in question q that leads to entry h. */
-static unsigned choice(unsigned h, size_t q)
+/* The lessor's rule for entry h. The rate class is the greatest, at most 3 + 9 + 3 = 15. */
+static void make_entry(struct table *table, unsigned h)
 {
-    return h >> questions[q].first & ((1u << questions[q].digits) - 1);
-}
-
-/* The lessor's rule. The rate class is the greatest, at most 3 + 9 + 3 = 15. */
-static void make_table(struct table *table)
-{
-    for (unsigned h = 0; h < 1u << D; h++) {
-        unsigned miles = choice(h, MILES), late = choice(h, LATE), starting = 1 - choice(h, YEARS);
-        put(table->classes, S * h + RATE, miles + 3 * late + 3 * starting);
-        put(table->classes, S * h + DEPOSIT, choice(h, PAID) ? 0 : 1 + 2 * late + 4 * starting);
-        put(table->classes, S * h + INSURANCE, 3 * miles + late);
-    }
-}
-
-static const char *reason(uint32_t answer)
-{
-    static const char *const reasons[] = {
-        "accepted",
-        "N is not a power of two from 1 to 1,024",
-        "g is not 1 to 16, L is 0, or g*L is above 32",
-        "M is not a power of two from 2 to 65,536",
-        "an entry has no class or more than N, there are more than 10 selectors, or the position is not below N",
-        "a slice doesn't have its exact length",
-        "an amplitude is above 2^31",
-        "a class is not below M, or a selector bit is above 1",
-        "a key word is above 1",
-        "the bound is 2^31/M or more, so noise could change a class",
-    };
-    return answer < sizeof reasons / sizeof *reasons ? reasons[answer] : "a number that this program doesn't know";
-}
-
-/* For steps that are refused only where this program is wrong. */
-static void must(const char *step, uint32_t answer)
-{
-    if (answer == 0)
-        return;
-    fprintf(stderr, "broker: %s is refused with %" PRIu32 ": %s\n", step, answer, reason(answer));
-    exit(1);
-}
-
-/*
- * Masks and errors for the rows of a block. draw() makes this example the same in every run; a portal takes words from
- * getrandom() of <sys/random.h>, or from what its system has in its place, here and for the key.
- */
-static void draw_rows(struct broker *broker)
-{
-    for (size_t j = 0; j < ROWS; j++) {
-        put(broker->masks, j, draw(&broker->source));
-        put(broker->errors, j, draw(&broker->source) % (2 * NOISE + 1) - NOISE);
-    }
+    unsigned miles = choice(&questions[MILES], h), late = choice(&questions[LATE], h);
+    unsigned starting = 1 - choice(&questions[YEARS], h), paid = choice(&questions[PAID], h);
+    put(table->classes, S * h + RATE, miles + 3 * late + 3 * starting);
+    put(table->classes, S * h + DEPOSIT, paid ? 0 : 1 + 2 * late + 4 * starting);
+    put(table->classes, S * h + INSURANCE, 3 * miles + late);
 }
 
 /* README.md has the lines from here */
-/* An array as a call takes it: where it begins, and its length in bytes. A call and its sisters take the same arguments. */
-#define LEND(array) (array), sizeof(array)
-#define SELECTOR(call) \
-    call(N, G, L, bit, LEND(broker->key), LEND(broker->masks), LEND(broker->errors), block, BLOCK)
-#define LOOKUP(call) \
-    call(N, G, L, table->M, S, D, LEND(request->blocks), LEND(request->amplitudes), LEND(table->classes), \
-        LEND(reply->sample), LEND(work))
-
-/* The broker encrypts a bit as selector i. The amplitude to declare is the bound that the encryption reports. */
-static void encrypt_bit(struct broker *broker, size_t i, uint64_t bit, struct request *request)
-{
-    uint8_t *block = request->blocks + BLOCK * i;
-    draw_rows(broker);
-    must("encryption", SELECTOR(cikenuma_encrypt_selector));
-    put(request->amplitudes, i, (uint32_t)SELECTOR(cikenuma_encrypt_selector_bound));
-}
 
 /* The evaluator has the broker's request and the lessor's table, and no key. It can take out one class alone. */
 static void evaluate(const struct request *request, const struct table *table, struct reply *reply)
@@ -145,36 +41,7 @@ static void evaluate(const struct request *request, const struct table *table, s
     if (reply->answer == 0)
         must("extraction", cikenuma_extract(N, RATE, LEND(reply->sample), LEND(reply->rate)));
 }
-
-/* The broker decrypts an accepted reply. Its bound is below 2^31/M, so noise can't change a class. */
-static void decrypt(const struct broker *broker, uint64_t M, const struct reply *reply, struct quote *quote)
-{
-    must("decryption", cikenuma_decrypt_classes(N, M, S, LEND(broker->key), LEND(reply->sample), LEND(quote->classes)));
-    must("decryption", cikenuma_decrypt_scalar(N, M, LEND(broker->key), LEND(reply->rate), LEND(quote->rate)));
-}
 /* to here. */
-
-static void print_answers(unsigned h)
-{
-    for (size_t q = 0; q < QUESTIONS; q++)
-        printf("%-28s%s\n", questions[q].text, questions[q].choices[choice(h, q)]);
-    printf("These name entry %u, whose bits from the lowest up are", h);
-    for (size_t i = 0; i < D; i++)
-        printf(" %u", h >> i & 1);
-    printf(".\n");
-}
-
-static void print_quote(const struct quote *quote)
-{
-    for (size_t j = 0; j < S; j++)
-        printf("  %-10sclass %" PRIu32 "\n", names[j], get(quote->classes, j));
-    printf("  %-10sclass %" PRIu32 ", from the scalar sample\n", names[RATE], get(quote->rate, 0));
-}
-
-static uint64_t limit(uint64_t M)
-{
-    return (1u << 31) / M;
-}
 
 /* What can be done about answer 9. The bound doesn't depend on M, and the limit does. */
 static void advise(uint64_t bound, uint64_t M)
@@ -190,12 +57,10 @@ static void serve(const struct broker *broker, const struct request *request, co
     static struct reply reply;
     static struct quote quote;
     evaluate(request, table, &reply);
-    printf("\nLookup with %" PRIu64 " classes: answer %" PRIu32 ", %s\n", table->M, reply.answer, reason(reply.answer));
-    printf("  bound %" PRIu64 ", limit 2^31/%" PRIu64 " = %" PRIu64 ", gates %" PRIu64 "\n",
-        reply.bound, table->M, limit(table->M), reply.gates);
+    print_reply(&reply, table->M);
     if (reply.answer == 0) {
         decrypt(broker, table->M, &reply, &quote);
-        print_quote(&quote);
+        print_quote(&quote, names);
     }
     if (reply.answer == 9)
         advise(reply.bound, table->M);
@@ -207,13 +72,13 @@ int main(void)
     static struct request request;
     static struct table table;
     make_key(broker.key, N);
-    make_table(&table);
+    for (unsigned h = 0; h < 1u << D; h++)
+        make_entry(&table, h);
 
-    /* 20,000 to 30,000 miles, three years in business, one late payment, no deposit. */
-    unsigned entry = 2u << questions[MILES].first | 1u << questions[YEARS].first | 1u << questions[LATE].first;
-    print_answers(entry);
-    for (size_t i = 0; i < D; i++)
-        encrypt_bit(&broker, i, entry >> i & 1, &request);
+    static const unsigned choices[QUESTIONS] = {[MILES] = 2, [YEARS] = 1, [LATE] = 1, [PAID] = 0};
+    unsigned entry = entry_of(questions, QUESTIONS, choices);
+    print_answers(questions, QUESTIONS, entry);
+    encrypt_entry(&broker, entry, &request);
 
     /* 16 classes are accepted, 32 lie too close together for the noise, and 8 are fewer than the table needs. */
     static const uint64_t class_numbers[] = {16, 32, 8};
