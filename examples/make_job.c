@@ -11,7 +11,7 @@
 #include "broker.h"
 #include "cikenuma.h"
 
-enum { MOST_L = 32, MOST_D = 10 };
+enum { MOST_L = 32, MOST_D = 16 };
 
 static uint64_t N, g, L, M, s, d, entry, noise;
 static uint8_t key[WORD * MOST_N], block[WORD * 4 * MOST_L * MOST_N];
