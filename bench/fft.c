@@ -16,7 +16,7 @@ enum { H = N / 2, ROWS = 2 * L };
 
 typedef double complex number;
 
-static number root[H], rows[D * ROWS][2][H], buffer[H], digits[H], sums[2][H];
+static number root[H], rows[CELLS_D * ROWS][2][H], buffer[H], digits[H], sums[2][H];
 static fftw_plan forward, backward;
 
 static void start(void)

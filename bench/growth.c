@@ -13,7 +13,10 @@
 
 /* At each size: the library, and C without and with zeros skipped. */
 enum { BESIDE = 3 };
-enum { ROUNDS = 15, MOST_SIZES = MOST_VARIANTS / BESIDE, MOST_L = 32, TREE_N = 128, SMALL_D = 3 };
+enum { ROUNDS = 15, MOST_SIZES = MOST_VARIANTS / BESIDE, MOST_L = 32, MOST_D = 16, SMALL_D = 3 };
+
+/* The degree at which trees are measured, and the rotations of a lookup in the vertical packing there: N is 2^7. */
+enum { TREE_N = 128, TREE_R = 7 };
 
 /*
  * Where the library goes by transforms, if at least 64 words of a sample are not 0, as in every gate here; and how many rows their
@@ -27,9 +30,9 @@ enum { LEAST_BY_TRANSFORMS = 128, ROWS_OF_A_BATCH = 16 };
  */
 enum { CLASSES = 16 };
 
-/* d is 0 for a CMux by itself. */
+/* d is 0 for a CMux by itself. In the vertical packing r of the selectors rotate, and in the horizontal one none. */
 struct size {
-    size_t n, g, l, d;
+    size_t n, g, l, d, r;
 };
 
 /* A series of sizes, the smallest first, and the call that is measured at each of them. */
@@ -45,7 +48,7 @@ struct series {
 };
 
 /* The largest block alone takes as many words as the blocks of any lookup here. */
-static uint32_t blocks[4 * MOST_L * N], amplitudes[D], classes[TREE_N << D], sample0[2 * N], sample1[2 * N], out[2 * N];
+static uint32_t blocks[4 * MOST_L * N], amplitudes[MOST_D], classes[TREE_N << D], sample0[2 * N], sample1[2 * N], out[2 * N];
 static uint32_t work[2 * N * (D + 1)];
 
 static void library_cmux(const void *with)
@@ -87,10 +90,20 @@ static void library_lookup(const void *with)
         exit(1);
 }
 
+static void library_vertical(const void *with)
+{
+    const struct size *size = with;
+    size_t n = size->n, d = size->d;
+    if (cikenuma_lookup_vertical(n, size->g, size->l, CLASSES, 1, d, SLICE(blocks, d * 4 * size->l * n), SLICE(amplitudes, d),
+                                 SLICE(classes, (size_t)1 << d), SLICE(out, 2 * n), SLICE(work, 2 * n * (d + 1))) != 0)
+        exit(1);
+}
+
+/* A sample has n classes in either packing: those of one entry, or one of each of n entries. */
 static void c_lookup(const struct size *size, gate *joining)
 {
-    struct table table = {size->n, size->n, CLASSES, classes};
-    join_entries(&table, joining, size, size->d, 0, out);
+    struct table table = {size->n, size->n, CLASSES, classes, size->r};
+    look_up(&table, joining, size, size->d, out);
 }
 
 static void plain_lookup(const void *with) { c_lookup(with, join_plain); }
@@ -103,21 +116,26 @@ static void print_gadget(FILE *file, const struct size *size) { fprintf(file, "%
 
 #define CMUX library_cmux, plain_cmux, skipping_cmux
 #define LOOKUP library_lookup, plain_lookup, skipping_lookup
+#define VERTICAL library_vertical, plain_lookup, skipping_lookup
 
 static const struct series all[] = {
     {"lookup-d.md", LOOKUP, print_d, 7,
-     {{TREE_N, G, L, 4}, {TREE_N, G, L, 5}, {TREE_N, G, L, 6}, {TREE_N, G, L, 7}, {TREE_N, G, L, 8}, {TREE_N, G, L, 9},
-      {TREE_N, G, L, 10}}},
+     {{TREE_N, G, L, 4, 0}, {TREE_N, G, L, 5, 0}, {TREE_N, G, L, 6, 0}, {TREE_N, G, L, 7, 0}, {TREE_N, G, L, 8, 0},
+      {TREE_N, G, L, 9, 0}, {TREE_N, G, L, 10, 0}}},
+    {"vertical-d.md", VERTICAL, print_d, 10,
+     {{TREE_N, G, L, 7, TREE_R}, {TREE_N, G, L, 8, TREE_R}, {TREE_N, G, L, 9, TREE_R}, {TREE_N, G, L, 10, TREE_R},
+      {TREE_N, G, L, 11, TREE_R}, {TREE_N, G, L, 12, TREE_R}, {TREE_N, G, L, 13, TREE_R}, {TREE_N, G, L, 14, TREE_R},
+      {TREE_N, G, L, 15, TREE_R}, {TREE_N, G, L, 16, TREE_R}}},
     {"lookup-N.md", LOOKUP, print_n, 7,
-     {{16, G, L, SMALL_D}, {32, G, L, SMALL_D}, {64, G, L, SMALL_D}, {128, G, L, SMALL_D}, {256, G, L, SMALL_D},
-      {512, G, L, SMALL_D}, {1024, G, L, SMALL_D}}},
-    {"lookup-L.md", LOOKUP, print_l, 3, {{512, G, 2, 5}, {512, G, 3, 5}, {512, G, 4, 5}}},
+     {{16, G, L, SMALL_D, 0}, {32, G, L, SMALL_D, 0}, {64, G, L, SMALL_D, 0}, {128, G, L, SMALL_D, 0}, {256, G, L, SMALL_D, 0},
+      {512, G, L, SMALL_D, 0}, {1024, G, L, SMALL_D, 0}}},
+    {"lookup-L.md", LOOKUP, print_l, 3, {{512, G, 2, 5, 0}, {512, G, 3, 5, 0}, {512, G, 4, 5, 0}}},
     {"cmux-N.md", CMUX, print_n, 11,
-     {{1, G, L, 0}, {2, G, L, 0}, {4, G, L, 0}, {8, G, L, 0}, {16, G, L, 0}, {32, G, L, 0}, {64, G, L, 0}, {128, G, L, 0},
-      {256, G, L, 0}, {512, G, L, 0}, {1024, G, L, 0}}},
-    {"cmux-L.md", CMUX, print_l, 4, {{N, G, 1, 0}, {N, G, 2, 0}, {N, G, 3, 0}, {N, G, 4, 0}}},
+     {{1, G, L, 0, 0}, {2, G, L, 0, 0}, {4, G, L, 0, 0}, {8, G, L, 0, 0}, {16, G, L, 0, 0}, {32, G, L, 0, 0}, {64, G, L, 0, 0},
+      {128, G, L, 0, 0}, {256, G, L, 0, 0}, {512, G, L, 0, 0}, {1024, G, L, 0, 0}}},
+    {"cmux-L.md", CMUX, print_l, 4, {{N, G, 1, 0, 0}, {N, G, 2, 0, 0}, {N, G, 3, 0, 0}, {N, G, 4, 0, 0}}},
     {"cmux-gadget.md", CMUX, print_gadget, 7,
-     {{N, 16, 1, 0}, {N, 16, 2, 0}, {N, 8, 2, 0}, {N, 8, 4, 0}, {N, 4, 8, 0}, {N, 2, 16, 0}, {N, 1, 32, 0}}},
+     {{N, 16, 1, 0, 0}, {N, 16, 2, 0, 0}, {N, 8, 2, 0, 0}, {N, 8, 4, 0, 0}, {N, 4, 8, 0, 0}, {N, 2, 16, 0, 0}, {N, 1, 32, 0, 0}}},
 };
 
 static int by_transforms(const struct size *size) { return size->n >= LEAST_BY_TRANSFORMS; }
@@ -132,16 +150,28 @@ static size_t whole_gate(const struct size *size)
     return by_transforms(size) ? 3 * rows + 2 * batches : 2 * rows;
 }
 
-/* The same of a gate that joins two entries: their difference has mask 0, and classes take one digit. The rest is skipped. */
-static size_t entries_gate(const struct size *size) { return by_transforms(size) ? 3 + 2 : 2; }
+/* The same of a gate between samples of the table: their difference has mask 0, classes take one digit, and the rest is skipped. */
+static size_t table_gate(const struct size *size) { return by_transforms(size) ? 3 + 2 : 2; }
+
+/* How many of them there are: the lowest level of the tree, or the first rotation where there is no tree. */
+static size_t table_gates(const struct size *size)
+{
+    size_t samples = (size_t)1 << (size->d - size->r);
+    return size->d == 0 ? 0 : samples == 1 ? 1 : samples / 2;
+}
+
+static size_t all_gates(const struct size *size)
+{
+    return size->d == 0 ? 1 : ((size_t)1 << (size->d - size->r)) - 1 + size->r;
+}
 
 static size_t log2_of(size_t n) { return n < 2 ? 0 : 1 + log2_of(n / 2); }
 
 /* The rule: products of words, or butterflies modulo both primes, of which a transform has N/2 * log2(N) modulo each. */
 static double steps_of(const struct size *size)
 {
-    size_t entries = (size_t)1 << size->d >> 1, n = size->n;
-    size_t gates = entries == 0 ? whole_gate(size) : entries * entries_gate(size) + (entries - 1) * whole_gate(size);
+    size_t n = size->n, first = table_gates(size), others = all_gates(size) - first;
+    size_t gates = first * table_gate(size) + others * whole_gate(size);
     return (double)(gates * n * (by_transforms(size) ? log2_of(n) : n));
 }
 
@@ -161,7 +191,7 @@ static void prepare(void)
     fill(sample1, 2 * N);
     for (size_t i = 0; i < sizeof classes / sizeof *classes; i++)
         classes[i] %= CLASSES;
-    for (size_t i = 0; i < D; i++)
+    for (size_t i = 0; i < MOST_D; i++)
         amplitudes[i] = 1;
 }
 

@@ -1,6 +1,6 @@
 /*
  * The whole of ratejob in plain C, with the CMux of schoolbook.c: reads a job file from standard input, tests it, and prints what
- * document 01 says. Compiled once for each build of schoolbook.c, with the same BUILD.
+ * docs/JOB-FILES.md says. Compiled once for each build of schoolbook.c, with the same BUILD.
  */
 #include "schoolbook.h"
 #include "tree.h"
@@ -8,7 +8,7 @@
 #include <inttypes.h>
 #include <stdio.h>
 
-enum { LARGEST = 65536, SMALLEST = 28 };
+enum { LARGEST = 65536, SMALLEST = 28, MOST_HORIZONTAL = 10 };
 
 /* A job's numbers, and the rest of its words: for each selector the amplitude and the block, then a count, then the classes. */
 struct job {
@@ -46,7 +46,7 @@ static uint32_t judge_numbers(const struct job *job)
         return 2;
     if (!is_power_of_two(job->m, 2, 65536))
         return 3;
-    if (job->s == 0 || job->s > job->n || job->d > MOST_SELECTORS)
+    if (job->s == 0 || job->s > job->n || job->d > (job->s == 1 ? MOST_SELECTORS : MOST_HORIZONTAL))
         return 4;
     return 0;
 }
@@ -95,10 +95,19 @@ static void join(const void *with, size_t i, const uint32_t *sample0, const uint
     BUILD.cmux(job->n, job->g, job->l, selector(job, i) + 1, sample0, sample1, room, result);
 }
 
-static void look_up(const struct job *job, uint32_t *sample)
+/* How many selectors rotate: with more of them than the horizontal packing takes, a job is in the vertical one. */
+static uint32_t rotations(const struct job *job)
 {
-    struct table table = {job->n, job->s, job->m, section_three(job) + 1};
-    join_entries(&table, join, job, job->d, 0, sample);
+    uint32_t r = 0;
+    while (job->d > MOST_HORIZONTAL && UINT32_C(1) << r < job->n)
+        r++;
+    return r;
+}
+
+static void run(const struct job *job, uint32_t r, uint32_t *sample)
+{
+    struct table table = {job->n, job->s << r, job->m, section_three(job) + 1, r};
+    look_up(&table, join, job, job->d, sample);
 }
 
 static void print_polynomial(const char *name, const uint32_t *coefficients, uint32_t n)
@@ -117,8 +126,9 @@ int main(void)
     printf("answer %" PRIu32 "\nbound %" PRIu64 "\n", answer, bound);
     if (answer != 0)
         return 0;
-    look_up(&job, sample);
-    printf("gates %" PRIu32 "\n", (UINT32_C(1) << job.d) - 1);
+    uint32_t r = rotations(&job);
+    run(&job, r, sample);
+    printf("gates %" PRIu32 "\n", (UINT32_C(1) << (job.d - r)) - 1 + r);
     print_polynomial("mask", sample, job.n);
     print_polynomial("body", sample + job.n, job.n);
     return 0;

@@ -60,15 +60,16 @@ What stands beside the library:
 degree a CMux uses it only where its samples differ in few words.
 
 Sizes, but for `ratejob`: N = 1,024, g = 8, L = 2, M = 4, s = 1,024. The lookup has 10 selectors, so 1,024 entries and 1,023
-CMuxes. In every call the library tests all arguments, for instance that key words are 0 or 1. The calls in C test nothing;
-`ratejob` in C tests the whole file. The job files:
+CMuxes. The vertical lookup is in the vertical packing, with s = 1 and 12 selectors: 4,096 entries in four samples, and 13 CMuxes.
+In every call the library tests all arguments, for instance that key words are 0 or 1. The calls in C test nothing; `ratejob` in C
+tests the whole file. The job files:
 
 END
     cat "$work/jobs.md"
     cat << 'END'
 
 The small job takes hardly more than a program's start. No job file is larger than the largest job, and none asks schoolbook for
-more products than the costliest one.
+more products than the costliest one. The long table is in the vertical packing.
 
 The outputs were compared before anything was timed: the words of the library and of every schoolbook in C agree, the classes
 that come of FFTW are right, and so is every output of `ratejob`.
@@ -101,7 +102,8 @@ growth() {
 
 ## Growth
 
-A lookup has 2^d - 1 CMuxes. The steps of a CMux depend on the way that the library takes:
+A lookup has 2^d - 1 CMuxes. In the vertical packing, with N = 2^v and d from v on, it has 2^(d - v) - 1 + v. The steps of a CMux
+depend on the way that the library takes:
 
 - **schoolbook**, for N below 128: 4*L products of polynomials, with N^2 products of words each;
 - **transforms**, from N = 128 on: modulo each of two primes one transform for each of the 2*L digit polynomials, two for each of
@@ -109,7 +111,8 @@ A lookup has 2^d - 1 CMuxes. The steps of a CMux depend on the way that the libr
   butterflies.
 
 The 2^(d - 1) CMuxes that join entries have fewer: the difference of two entries has mask 0 and, whatever L is, one digit that
-isn't 0, and the rest is skipped. That leaves 2 products of polynomials, or 5 transforms.
+isn't 0, and the rest is skipped. That leaves 2 products of polynomials, or 5 transforms. In the vertical packing it is the same with
+the 2^(d - v - 1) CMuxes that join samples of the table, or with the first rotation where one sample holds the table.
 
 Each row shows by how much the time has grown since the row above, in the median, and by how much the number of these steps has
 ("expected"); where the way changes, nothing is expected. "Time per step" is the best time over the steps, as a ratio to the last
@@ -122,6 +125,15 @@ N = 128, g = 8, L = 2, M = 16, s = 128. The steps are 5*2^(d - 1) + 14*(2^(d - 1
 
 END
     growth_table d lookup-d.md
+    cat << 'END'
+
+### Lookup in the vertical packing, with the selectors d
+
+N = 128, so v = 7; g = 8, L = 2, M = 16. With d = 7 one sample holds the table, and each further selector doubles the samples. The
+steps are 5 + 14*6 transforms modulo each prime with d = 7, and from there on 5*2^(d - 8) + 14*(2^(d - 8) - 1 + 7).
+
+END
+    growth_table d vertical-d.md
     cat << 'END'
 
 ### Lookup, with the degree N
