@@ -97,6 +97,25 @@ END
     cat "$work/beside.md"
 }
 
+packings() {
+    cat << 'END'
+
+## Packings
+
+A table of 4,096 cells with one class in each, at N = 1,024, g = 8, L = 2 and M = 4, by the library alone. In the vertical packing
+four samples hold it, and it takes one lookup with 12 selectors. The horizontal packing takes at most 10 selectors, so one lookup
+has at most 1,024 cells. Four such lookups and three CMuxes make the tree over 4,096 cells.
+
+The ways run in turn, in rounds, as above. "To vertical" is a way's time over that of the vertical packing in the same round: the
+median, then the spread. Half of the gates of a tree join two cells, which differ in one word at most, and take little time. The other
+gates, and nearly all of those in the vertical packing, take as long as one CMux of encrypted samples.
+
+| | cells | gates | time here | time per gate | to vertical | spread |
+|---|---:|---:|---:|---:|---:|---:|
+END
+    cat "$work/packings.md"
+}
+
 growth() {
     cat << 'END'
 
@@ -184,5 +203,6 @@ END
 results() {
     summary
     beside
+    packings
     growth
 }
