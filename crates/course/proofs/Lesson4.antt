@@ -1,25 +1,29 @@
 -- Lesson 4, the lookup and its bound: the exercises, each with its solution. Exercise 4.6, the function `tree_gates`, is in
 -- src/lib.rt, its proof in proofs/tree_gates.
 -- Assumes nothing.
-use mathlib.Core.Path.{_≡_, refl, _∙_}
+use mathlib.Core.Path.{_≡_, refl, ap, _∙_}
 use mathlib.Core.List.{List, [], _∷_}
-use Prim.Native.Nat.{ℕ, zero, suc, _+_, _*_, _^_, _≤_, _<_}
-use native.Mathlib.Nat.{le-refl, le-trans, two-pow-succ}
+use Prim.Native.Nat.{ℕ, zero, suc, _+_, _-_, _*_, _/_, _%_, _^_, _≤_, _<_}
+use native.Mathlib.Nat.{le-refl, le-trans, two-pow-succ, add-zero}
 use native.Mathlib.Omega.{arith}
+use lib.Count.{trailingZeros}
 use lib.ListN.{length, getD}
-use Rattle.torus.specs.Sum.{sum}
+use lib.Pow.{pow-pos}
+use Rattle.torus.specs.Sum.{sum, tabulate}
 use Rattle.torus.specs.Bytes.{words}
+use Rattle.ring.specs.Polynomial.{Agree, coefficients, rotated}
+use Rattle.ring.proofs.Rotation.{rotated-high}
 use Rattle.answers.specs.Answers.{bound}
 use Rattle.trgsw.specs.declared.Parameters.{Parameters}
-use Rattle.lookup.specs.declared.Packing.the-variants.{Horizontal}
+use Rattle.lookup.specs.declared.Packing.the-variants.{Horizontal, Vertical}
 use Rattle.lookup.specs.declared.Numbers.{Numbers}
-use Rattle.lookup.specs.Numbers.{parameters}
+use Rattle.lookup.specs.Numbers.{parameters, rotations, levels, gateCount}
 use Rattle.lookup.specs.Tree.{tree, entryNumber}
 use Rattle.lookup.specs.Lookup.{entryClasses, charges}
 use Rattle.lookup.specs.Job.{Job, declaring}
 use Rattle.lookup.specs.Calls.{noiseBound, lookup, IsAccepted}
 use Rattle.lookup.proofs.Accepted.{Findable, lookup-accepted, lookup-accepts}
-use Rattle.course.specs.Definitions.{counted, deepest}
+use Rattle.course.specs.Definitions.{negative, counted, deepest}
 use Rattle.course.proofs.Lesson3.{charge-mono}
 
 -- Exercise 4.1. Selectors 0, 1 and 2 hold the bits 1, 0 and 1. Compute the number of the entry that they name, and, with two
@@ -90,3 +94,33 @@ smaller-accepted j e smaller size less =
       quiet = omega (arith, less-noise, ok .quiet);
     } in
     rw (lookup-accepts (declaring j smaller) fit, lookup-accepts j ok) (refl, less-noise)
+
+-- Exercise 4.7. A van lessor has 4,096 rate cells, one class in each. In the vertical packing with N = 1,024, compute how many selectors
+-- rotate, how many levels the tree has, how many gates there are, and in which coefficient of which sample the class of entry 2500 is.
+abbrev pub van : Numbers
+van = record { packing = Vertical; N = 1024; g = 8; L = 3; M = 64; s = 1; d = 12 }
+
+pub van-counted : (rotations van ≡ 10) × (levels van ≡ 2) × (gateCount van ≡ 13)
+unfolding rotations trailingZeros
+van-counted = (refl, refl, refl)
+
+pub van-place : (2500 / 2 ^ 10 ≡ 2) × (2500 % 2 ^ 10 ≡ 452)
+van-place = (refl, refl)
+
+-- Exercise 4.8. With N = 2, compute X^(-1)·(5 + 9X): it begins with 9. Then show that X^(-N) is -1, for every N.
+pub turned-once : tabulate 2 (rotated 2 1 (coefficients (5 ∷ 9 ∷ []))) ≡ 9 ∷ negative 5 ∷ []
+unfolding tabulate rotated
+turned-once = refl
+
+pub turned-round : (N : ℕ) (p : ℕ → ℕ) → Agree N (rotated N N p) (λ t. negative (p t))
+turned-round N p t l =
+    let place : t + N - N ≡ t = omega arith in
+    rotated-high N N p t (omega arith) ∙ ap (λ i. negative (p i)) place
+
+-- Exercise 4.9. However the d selectors are divided, r that rotate and e of the tree, there are no more gates than in a tree of all d.
+pub no-more-gates : (e r : ℕ) → 2 ^ e - 1 + r ≤ 2 ^ (e + r) - 1
+no-more-gates e r = omega (arith, room e r, pow-pos e)
+  where
+    room : (e r : ℕ) → 2 ^ e + r ≤ 2 ^ (e + r)
+    room e zero = omega (arith, ap (λ n. 2 ^ n) (add-zero e))
+    room e (suc r) = omega (arith, room e r, two-pow-succ (e + r), pow-pos (e + r), ap (λ n. 2 ^ n) (let s : e + suc r ≡ suc (e + r) = omega arith in s))

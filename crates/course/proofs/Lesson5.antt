@@ -10,7 +10,7 @@ use Rattle.torus.specs.Bytes.{words, bytes}
 use Rattle.answers.specs.Answers.{number, bound, gates, _orElse_}
 use Rattle.answers.specs.Checks.{allBelow}
 use Rattle.answers.specs.declared.Answer.the-variants.{Refused}
-use Rattle.lookup.specs.declared.Packing.the-variants.{Horizontal}
+use Rattle.lookup.specs.declared.Packing.the-variants.{Horizontal, Vertical}
 use Rattle.lookup.specs.Lookup.{charges}
 use Rattle.lookup.specs.Numbers.{masks, rotations}
 use Rattle.lookup.specs.Job.{Job}
@@ -76,3 +76,13 @@ one-selector file e degree digits =
 -- Exercise 5.5. Two whole jobs with the same file are the same job.
 pub file-injective : (i j : Job) → Whole i → Whole j → jobFile i ≡ jobFile j → i ≡ j
 file-injective i j wi wj e = sym (read-made i wi) ∙ ap readJob e ∙ read-made j wj
+
+-- Exercise 5.6. Up to which d is a file with s = 1 packed horizontally, and from which on vertically? And what is a file with two classes
+-- an entry and d = 11 answered?
+pub packed-by-depth : (filePacking 1 10 ≡ Horizontal) × (filePacking 1 11 ≡ Vertical)
+unfolding filePacking
+packed-by-depth = (refl, refl)
+
+pub eleven-refused : jobAnswer (bytes (5 ∷ 2 ∷ 8 ∷ 2 ∷ 16 ∷ 2 ∷ 11 ∷ [])) ≡ Refused 4
+unfolding jobAnswer fileRefusal readJob filePacking _orElse_ words bytes ones
+eleven-refused = refl
