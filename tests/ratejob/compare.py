@@ -15,7 +15,7 @@ import damaged
 import oracle
 
 # How many vectors are stored, so that the test can't pass without them; and how many seconds a run may take.
-VECTORS = 178
+VECTORS = 218
 LIMIT = 10
 JOBS = os.path.join(os.path.dirname(os.path.abspath(__file__)), "jobs")
 

@@ -2,6 +2,7 @@
 
 Nothing is said here of what the program must print: oracle.py says it of each file.
 """
+import itertools
 import random
 import struct
 import sys
@@ -54,8 +55,8 @@ def single_words():
 
 def numbers():
     """Words 1 to 6 at their limits and beyond, in the shortest file that is judged by them. Lawful ones get 5, for its length."""
-    least, greatest = [5, 1, 1, 1, 2, 1, 0], [5, 1024, 16, 2, 65_536, 1024, 10]
-    for words in (least, greatest):
+    least, greatest, deepest = [5, 1, 1, 1, 2, 1, 0], [5, 1024, 16, 2, 65_536, 1024, 10], [5, 1024, 16, 2, 65_536, 1, 16]
+    for words in (least, greatest, deepest):
         yield Case(f"the numbers {words}", pack(words))
         for place in range(1, 7):
             limit = words[place]
@@ -66,23 +67,38 @@ def numbers():
             yield Case(f"the gadget g = {g}, L = {digit_count}", pack([5, 1, g, digit_count, 16, 1, 0]))
 
 
-# A fault for each check: its place in a job like Job J with two selectors, and the word.
+def depths():
+    """How many selectors are lawful goes by the classes of an entry. Up to twelve of them a file has the length for its numbers."""
+    for s in range(4):
+        for d in range(9, 19):
+            words = [5, 2, 16, 1, 4, s, d] + [0] * (9 * d) + [s * 2**d] + [0] * (s * 2**d)
+            yield Case(f"s = {s}, d = {d} beside N = 2", pack(words if d < 13 else words[:7]))
+
+
+# Job J with two selectors: whole entries are picked. Eleven selectors, with one class an entry: the lowest one rotates.
 TWO_SELECTORS = JOB_J[:6] + [2] + JOB_J[7:16] + JOB_J[7:16] + [4, 3, 8, 15, 0]
-FAULTS = {
-    "first word": (0, 6), "N": (1, 3), "g": (2, 17), "L": (3, 3), "M": (4, 17), "s": (5, 2), "d": (6, 11), "length": (6, 1),
-    "section three count": (25, 3), "amplitude": (16, 2**31 + 1), "class": (29, 16), "noise": (7, 2**31),
-}
+ELEVEN_SELECTORS = [5, 2, 16, 2, 16, 1, 11] + ([7] + [65_536, 0, 0, 1] * 4) * 11 + [2048] + [3, 8] * 1024
+
+
+def faults(words):
+    """A fault for each check: its place in the job, and the word."""
+    d, selector_words = words[6], 1 + 4 * words[3] * words[1]
+    third = 7 + d * selector_words
+    return {
+        "first word": (0, 6), "N": (1, 3), "g": (2, 17), "L": (3, 3), "M": (4, 17), "s": (5, 2), "d": (6, 17), "length": (6, d - 1),
+        "section three count": (third, 3), "amplitude": (third - selector_words, 2**31 + 1), "class": (len(words) - 1, 16),
+        "noise": (7, 2**31),
+    }
 
 
 def pairs_of_faults():
     """A fault alone, or two in one file: the lower number is answered, except that a wrong first word goes before all."""
-    names = list(FAULTS)
-    for i, first in enumerate(names):
-        for second in names[i:]:
-            words = TWO_SELECTORS
-            for place, word in (FAULTS[first], FAULTS[second]):
+    for job in (TWO_SELECTORS, ELEVEN_SELECTORS):
+        for first, second in itertools.combinations_with_replacement(faults(job).items(), 2):
+            words = job
+            for _, (place, word) in (first, second):
                 words = replaced(words, place, word)
-            yield Case(f"faults: {first}, {second}", pack(words))
+            yield Case(f"{job[6]} selectors, faults: {first[0]}, {second[0]}", pack(words))
 
 
 def random_job(rng, n, g, digit_count, m, s, amplitudes):
@@ -95,19 +111,32 @@ def random_job(rng, n, g, digit_count, m, s, amplitudes):
     return words + [s * 2**d] + [rng.randrange(m) for _ in range(s * 2**d)]
 
 
+GADGETS = [(g, digit_count) for g in range(1, 17) for digit_count in range(1, 33) if 8 <= g * digit_count <= 32]
+
+
 def random_jobs():
     """Small jobs, with amplitudes that are mostly small enough for acceptance; then jobs that go to a limit."""
     rng = random.Random(1)
-    gadgets = [(g, digit_count) for g in range(1, 17) for digit_count in range(1, 33) if 8 <= g * digit_count <= 32]
     for number in range(100):
-        n, (g, digit_count) = 2 ** rng.randrange(4), rng.choice(gadgets)
+        n, (g, digit_count) = 2 ** rng.randrange(4), rng.choice(GADGETS)
         amplitudes = [rng.choice([0, 1, 1, 7, 1000]) for _ in range(rng.randrange(5))]
         words = random_job(rng, n, g, digit_count, 2 ** rng.randrange(1, 6), rng.randrange(1, n + 1), amplitudes)
         yield Case(f"random job {number}", pack(words))
     yield Case("the greatest N", pack(random_job(rng, 1024, 16, 1, 8, 1024, [1])))
-    yield Case("the most selectors", pack(random_job(rng, 8, 8, 3, 16, 8, [1] * 10)))
+    yield Case("the most selectors over whole entries", pack(random_job(rng, 8, 8, 3, 16, 8, [1] * 10)))
     yield Case("the greatest bound of a file", pack(random_job(rng, 512, 16, 1, 2, 1, [2**31] * 7)))
     yield Case("an accepted bound of 2^31/M - 1", pack(random_job(rng, 2, 1, 31, 16, 2, [1_082_401])))
+
+
+def long_tables():
+    """Tables of single classes, packed vertically. A file has room for thirteen selectors, or for eleven with N = 256."""
+    rng = random.Random(3)
+    for number in range(20):
+        n, (g, digit_count) = 2 ** rng.randrange(6), rng.choice([gadget for gadget in GADGETS if gadget[1] <= 4])
+        amplitudes = [rng.choice([0, 1, 1, 7, 1000]) for _ in range(rng.randrange(11, 13))]
+        yield Case(f"long table {number}", pack(random_job(rng, n, g, digit_count, 2 ** rng.randrange(1, 6), 1, amplitudes)))
+    yield Case("the most selectors of a file", pack(random_job(rng, 8, 16, 2, 2, 1, [1] * 13)))
+    yield Case("the greatest N of a long table", pack(random_job(rng, 256, 16, 1, 4, 1, [1] * 11)))
 
 
 def large():
@@ -138,5 +167,5 @@ def in_pieces():
 
 
 def all_cases():
-    for series in (lengths, single_words, numbers, pairs_of_faults, random_jobs, large, in_pieces):
+    for series in (lengths, single_words, numbers, depths, pairs_of_faults, random_jobs, long_tables, large, in_pieces):
         yield from series()

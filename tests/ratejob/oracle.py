@@ -1,7 +1,7 @@
-"""What ratejob must print for a file, written from document 01 alone.
+"""What ratejob must print for a file, written from documents 01 and 02 alone.
 
-Plain and slow: words and sums are exact integers, reduced modulo 2^32 where the document says so; digits go by carries; the
-table is joined level by level. It shares no code with the library and none with bench/.
+Plain and slow: words and sums are exact integers, reduced modulo 2^32 where the documents say so; digits go by carries; the
+table is joined level by level, and then rotated step by step. It shares no code with the library and none with bench/.
 """
 import struct
 from typing import NamedTuple
@@ -20,15 +20,16 @@ class Refusal(Exception):
 
 
 class Job(NamedTuple):
-    """A lawful job. The document's L is digit_count; an entry is the list of its classes."""
+    """A lawful job. The document's L is digit_count; the first `rotating` selectors rotate; a message is a list of classes."""
 
     n: int
     g: int
     digit_count: int
     m: int
+    rotating: int
     amplitudes: list
     blocks: list
-    entries: list
+    messages: list
 
 
 def is_power_of_two(x):
@@ -40,6 +41,11 @@ def check(number, holds):
         raise Refusal(number)
 
 
+def rotating_selectors(n, s, d):
+    """A table of single classes with more than ten selectors is packed vertically: consecutive classes fill a sample."""
+    return min(n.bit_length() - 1, d) if s == 1 and d > 10 else 0
+
+
 def parse(data):
     """The job in a file; a refusal from 1 to 7 where the file has a fault."""
     check(5, 28 <= len(data) <= LARGEST and len(data) % 4 == 0)
@@ -49,7 +55,7 @@ def parse(data):
     check(1, is_power_of_two(n) and n <= 1024)
     check(2, 1 <= g <= 16 and digit_count >= 1 and g * digit_count <= 32)
     check(3, is_power_of_two(m) and 2 <= m <= 65_536)
-    check(4, 1 <= s <= n and d <= 10)
+    check(4, 1 <= s <= n and d <= (16 if s == 1 else 10))
 
     selector_words, class_words = 1 + 4 * digit_count * n, s * 2**d
     third = 7 + d * selector_words
@@ -59,7 +65,10 @@ def parse(data):
     classes = words[third + 1 :]
     check(6, all(amplitude <= 2**31 for amplitude in amplitudes))
     check(7, all(c < m for c in classes))
-    return Job(n, g, digit_count, m, amplitudes, blocks, [classes[s * h : s * (h + 1)] for h in range(2**d)])
+    rotating = rotating_selectors(n, s, d)
+    held = s * 2**rotating
+    messages = [classes[at : at + held] for at in range(0, class_words, held)]
+    return Job(n, g, digit_count, m, rotating, amplitudes, blocks, messages)
 
 
 def noise_bound(job):
@@ -109,17 +118,31 @@ def gate(job, block, sample0, sample1):
     return [[word % Q for word in polynomial] for polynomial in result]
 
 
-def lookup(job):
-    """The sample, and how many gates it took. Selector 0 joins entries 2t and 2t + 1, selector 1 those results, and so on."""
+def rotated(polynomial, q):
+    """X^(-q) times it: coefficient t + q comes to t, and those that pass the end change their sign."""
+    return polynomial[q:] + [-word % Q for word in polynomial[:q]]
+
+
+def picked(job):
+    """One of the table's samples, and how many gates it took. The lowest selector that doesn't rotate joins samples 2t and 2t + 1,
+    the next those results, and so on."""
     samples = []
-    for classes in job.entries:
+    for classes in job.messages:
         message = [c * (Q // job.m) for c in classes] + [0] * (job.n - len(classes))
         samples.append([[0] * job.n, message])
     gates = 0
-    for block in job.blocks:
+    for block in job.blocks[job.rotating :]:
         gates += len(samples) // 2
         samples = [gate(job, block, samples[t], samples[t + 1]) for t in range(0, len(samples), 2)]
     return samples[0], gates
+
+
+def lookup(job):
+    """The sample, and how many gates it took. Selector i, if it rotates, picks between the sample and X^(-2^i) times it."""
+    sample, gates = picked(job)
+    for i, block in enumerate(job.blocks[: job.rotating]):
+        sample = gate(job, block, sample, [rotated(polynomial, 2**i) for polynomial in sample])
+    return sample, gates + job.rotating
 
 
 def output(data):
