@@ -4,9 +4,9 @@
  * A broker encrypts what an applicant answered, an evaluator without the key works it through a
  * rate table, and the broker decrypts a rate class. The scheme is levelled TFHE over 32-bit torus
  * words. This header declares the broker's side, encrypting and decrypting classes and encrypting
- * selector bits, and what needs no key: the lookup in a table, the external product and the CMux
- * ("gate") that it is made of, and extracting one coefficient of a packed sample. It can be included
- * from C and from C++.
+ * selector bits, and what needs no key: lookups in a table, which has two packings, the external
+ * product and the CMux ("gate") that they are made of, and extracting one coefficient of a packed
+ * sample. It can be included from C and from C++.
  *
  * Masks and errors must come from the caller's own source of randomness: the library draws none.
  * It makes no claim about secrecy, and chooses no parameters.
@@ -47,6 +47,9 @@
  *                 side by side. The selectors name the entry whose number has the bit of selector i
  *                 as its binary digit i, digit 0 the lowest. The exact encoding of an entry is the
  *                 message that holds its classes.
+ * Rotation        by q places, q from 0 to N - 1: a polynomial times X^(-q). In place t comes
+ *                 coefficient t + q or, where that passes the end, coefficient t + q - N with its sign
+ *                 changed. A packed sample is rotated by rotating its mask and its body.
  *
  *
  * CONVENTIONS
@@ -79,7 +82,8 @@
  *     1      0            N is not a power of two from 1 to 1,024
  *     2      0            g is not 1 to 16, L is 0, or g*L is above 32
  *     3      0            M is not a power of two from 2 to 65,536
- *     4      0            s is 0 or above N; d is above 10; position p is not below N
+ *     4      0            s is 0 or above N; d is above 10; position p is not below N; in the
+ *                         vertical packing: s is not 1, d is above 16
  *     5      0            the length of a slice differs from the exact one
  *     6      0            a declared amplitude is above 2^31
  *     7      0            a class is not below M, or a selector bit is above 1
@@ -379,6 +383,72 @@ uint64_t cikenuma_lookup_gates(uint64_t N, uint64_t g, uint64_t L, uint64_t M, u
                                const uint8_t *classes, size_t classes_length,
                                const uint8_t *sample, size_t sample_length,
                                const uint8_t *work, size_t work_length);
+
+/*
+ * Looks a class up in a public table of single classes by d selectors, without the key. The table is
+ * packed vertically: consecutive classes fill the coefficients of a sample, so a table longer than N
+ * has 2^d/N samples, where cikenuma_lookup makes a sample of each entry.
+ *
+ * N is 2^v. Selectors 0 to r - 1, with r the lesser of v and d, rotate a sample; selectors r to d - 1
+ * pick it. The table has 2^(d-r) samples:
+ *
+ *   coefficient         0             1         ...       2^r - 1       2^r to N - 1
+ *   sample 0         class 0       class 1      ...    class 2^r - 1         0
+ *   sample 1        class 2^r   class 2^r + 1   ...   class 2*2^r - 1        0
+ *   and so on
+ *
+ *   N            degree
+ *   g            the gadget's base is 2^g
+ *   L            how many digits the gadget has
+ *   M            number of classes
+ *   s            how many classes an entry has, which is 1
+ *   d            how many selectors, 0 to 16
+ *   blocks       d*4*L*N words, the selectors' blocks, selector 0 first
+ *   amplitudes   d words, that of each block, at most 2^31
+ *   classes      2^d words, the table: the class of entry 0, then that of entry 1, and so on, each
+ *                below M
+ *   sample       2*N words, written: the packed sample that the CMuxes make, with the class in
+ *                coefficient 0. Every sample of the table begins with mask 0 and the encoded classes
+ *                above as body. Selector r joins samples 2t and 2t + 1 by a CMux, selector r + 1 joins
+ *                those results, and so on to the last selector, whose one result is x. Then, for i
+ *                from 0 to r - 1, selector i picks by a CMux between x and x rotated by 2^i places,
+ *                and what it picks is the next x. The last x is written. With d = 0 it is sample 0.
+ *   work         2*N*(d + 1) words, room for the CMuxes: what it holds before is of no account, and
+ *                afterwards all of it is 0
+ *
+ * Refusals, in order: 1, 2, 3, 4, 5, 6, 7, 9. With d = 0 all arguments are tested as with any other d;
+ * blocks and amplitudes then have length 0.
+ * Bound: the sum of the d charges, a selector's charge going by its amplitude; 0 if d is 0. From 2^31/M
+ * on the call refuses with 9, before anything is written, and the whole sum is still reported.
+ * What it means: if the call returns 0, and each block holds its bit within its amplitude under a key
+ * of 0s and 1s, then coefficient 0 of the sample's phase under that key is no farther than the bound
+ * from the encoded class of the entry that the bits name. And cikenuma_decrypt_classes with the same N
+ * and M, with s = 1 and that key gives this class. Of the other coefficients nothing is said.
+ * Gates: 2^(d-r) - 1 + r.
+ */
+uint32_t cikenuma_lookup_vertical(uint64_t N, uint64_t g, uint64_t L, uint64_t M,
+                                  uint64_t s, uint64_t d,
+                                  const uint8_t *blocks, size_t blocks_length,
+                                  const uint8_t *amplitudes, size_t amplitudes_length,
+                                  const uint8_t *classes, size_t classes_length,
+                                  uint8_t *sample, size_t sample_length,
+                                  uint8_t *work, size_t work_length);
+
+uint64_t cikenuma_lookup_vertical_bound(uint64_t N, uint64_t g, uint64_t L, uint64_t M,
+                                        uint64_t s, uint64_t d,
+                                        const uint8_t *blocks, size_t blocks_length,
+                                        const uint8_t *amplitudes, size_t amplitudes_length,
+                                        const uint8_t *classes, size_t classes_length,
+                                        const uint8_t *sample, size_t sample_length,
+                                        const uint8_t *work, size_t work_length);
+
+uint64_t cikenuma_lookup_vertical_gates(uint64_t N, uint64_t g, uint64_t L, uint64_t M,
+                                        uint64_t s, uint64_t d,
+                                        const uint8_t *blocks, size_t blocks_length,
+                                        const uint8_t *amplitudes, size_t amplitudes_length,
+                                        const uint8_t *classes, size_t classes_length,
+                                        const uint8_t *sample, size_t sample_length,
+                                        const uint8_t *work, size_t work_length);
 
 #ifdef __cplusplus
 }
