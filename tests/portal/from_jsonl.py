@@ -21,6 +21,7 @@ TABLE = {
     "external_product": ("external_product", "N g L A A_in", "block sample", "out"),
     "gate": ("cmux", "N g L A A0 A1", "block sample0 sample1", "out"),
     "lookup": ("lookup", "N g L M s d", "blocks amps classes", "out work"),
+    "lookup_vertical": ("lookup_vertical", "N g L M s d", "blocks amps classes", "out work"),
 }
 
 HEADER = """\

@@ -1,8 +1,8 @@
 /*
- * Random lookups for every degree with every number of selectors: these are encrypted, an entry is looked up and
- * decrypted. Not one class may be wrong, and no coefficient of the result's phase farther from the entry's exact
- * encoding than the bound that is reported. Every word is compared with the tree in plain C. Jobs with too much noise
- * must be refused.
+ * Random lookups in every packing, for every degree with every number of selectors: these are encrypted, an entry is
+ * looked up and decrypted. Not one class may be wrong, and no coefficient of the result's phase farther from what it
+ * should be than the bound that is reported. Every word is compared with the CMuxes in plain C. Jobs with too much noise
+ * must be refused. In small tables every entry is looked up.
  */
 #include "portal.h"
 
@@ -10,25 +10,25 @@
 #include <stdio.h>
 #include <stdlib.h>
 
-enum { MAX_N = 1024, MAX_ROWS = 64, MAX_BLOCK = 2 * MAX_ROWS * MAX_N, MAX_TABLE = MAX_N << MAX_D };
+enum { MAX_N = 1024, MAX_ROWS = 64, MAX_BLOCK = 2 * MAX_ROWS * MAX_N, MAX_TABLE = 1024 * 1024, PACKINGS = 3 };
 
 /* One round: the selectors' bits are the binary digits of h, the number of the entry to be looked up. */
 struct round {
+    const struct call *call;
     struct numbers n;
     uint64_t h;
     uint32_t key[MAX_N], amplitudes[MAX_D], blocks[MAX_D * MAX_BLOCK], classes[MAX_TABLE], sample[2 * MAX_N];
 };
 
-/* Jobs that were accepted, by their N and d. */
-static unsigned accepted[MAX_N + 1][MAX_D + 1];
+/* Jobs that were accepted, by their packing, N and d. */
+static unsigned accepted[PACKINGS][MAX_N + 1][MAX_D + 1];
 
 /* Jobs that were refused, and selectors with an error as great as their amplitude, which isn't 0. */
 static unsigned refused, greatest;
 
-static struct job job_of(const struct round *r)
+static struct job round_job(const struct round *r)
 {
-    return (struct job){{r->n.g, r->n.L}, (size_t)r->n.N, (size_t)r->n.s, (size_t)r->n.d, r->n.M,
-                        r->blocks, r->amplitudes, r->classes};
+    return job_of(r->call, r->n, r->blocks, r->amplitudes, r->classes);
 }
 
 /* How amplitudes are chosen: none; small; a share each; all for one selector; parts of the greatest sum, at random. */
@@ -75,15 +75,17 @@ static void encrypt_selector_of(struct round *r, size_t i)
     free_arguments(&a);
 }
 
-/* Every coefficient of the phase, used or not, against the exact encoding of the entry that the bits name. */
+/* Every coefficient of the phase, used or not, against what it should be for the entry that the bits name. */
 static void check_phase(const struct arguments *a, const struct round *r)
 {
-    struct job job = job_of(r);
+    uint32_t want[MAX_N];
+    struct job job = round_job(r);
     uint64_t bound = charges_of(&job);
+    exact_message(want, &job, (size_t)r->h);
     for (size_t i = 0; i < job.N; i++) {
-        uint32_t phase = phase_at(r->sample, r->key, job.N, i), want = entry_at(&job, (size_t)r->h, i);
-        check_call(a, magnitude(phase - want) <= bound,
-                   "phase %zu is %" PRIu32 ", more than %" PRIu64 " from %" PRIu32, i, phase, bound, want);
+        uint32_t phase = phase_at(r->sample, r->key, job.N, i);
+        check_call(a, magnitude(phase - want[i]) <= bound,
+                   "phase %zu is %" PRIu32 ", more than %" PRIu64 " from %" PRIu32, i, phase, bound, want[i]);
     }
 }
 
@@ -100,7 +102,7 @@ static void check_classes(const struct round *r)
 
 static void set_job(struct arguments *a, const struct round *r)
 {
-    lawful(a, &lookup, r->n, below(UINT64_MAX));
+    lawful(a, r->call, r->n, below(UINT64_MAX));
     set_words(slice_of(a, BLOCKS), r->blocks, (size_t)(r->n.d * 4 * r->n.L * r->n.N));
     set_words(slice_of(a, AMPLITUDES), r->amplitudes, (size_t)r->n.d);
     set_words(slice_of(a, CLASSES), r->classes, (size_t)(r->n.s << r->n.d));
@@ -109,7 +111,7 @@ static void set_job(struct arguments *a, const struct round *r)
 /* The same job with the least amplitude of one selector that is too great. */
 static void refuse_amplitude(struct arguments *a, const struct round *r)
 {
-    struct job job = job_of(r);
+    struct job job = round_job(r);
     uint64_t unit = unit_of(r->n), sum = charges_of(&job), steps = (limit_of(r->n) - sum + unit - 1) / unit;
     size_t i = (size_t)below(r->n.d);
     set_job(a, r);
@@ -121,7 +123,7 @@ static void refuse_amplitude(struct arguments *a, const struct round *r)
 /* The same job with the least number of classes for which its noise is too great, if there is a lawful one. */
 static void refuse_classes(struct arguments *a, const struct round *r)
 {
-    struct job job = job_of(r);
+    struct job job = round_job(r);
     struct numbers n = r->n;
     uint64_t sum = charges_of(&job);
     while (n.M <= 65536 && sum < limit_of(n))
@@ -134,14 +136,15 @@ static void refuse_classes(struct arguments *a, const struct round *r)
     refused++;
 }
 
-static void run_round(struct numbers n, enum choice choice)
+static void run_round(const struct call *call, struct numbers n, uint64_t h, enum choice choice)
 {
     static struct round r;
     struct arguments a = {0};
+    r.call = call;
     r.n = n;
-    r.h = below(UINT64_C(1) << n.d);
-    at("N = %" PRIu64 ", g = %" PRIu64 ", L = %" PRIu64 ", M = %" PRIu64 ", s = %" PRIu64 ", d = %" PRIu64
-       ", entry %" PRIu64 ", amplitudes of choice %d", n.N, n.g, n.L, n.M, n.s, n.d, r.h, (int)choice);
+    r.h = h;
+    at("%s: N = %" PRIu64 ", g = %" PRIu64 ", L = %" PRIu64 ", M = %" PRIu64 ", s = %" PRIu64 ", d = %" PRIu64
+       ", entry %" PRIu64 ", amplitudes of choice %d", call->name, n.N, n.g, n.L, n.M, n.s, n.d, h, (int)choice);
     choose_key(r.key, (size_t)n.N);
     choose_classes(&r, choice);
     choose_amplitudes(&r, choice);
@@ -149,7 +152,7 @@ static void run_round(struct numbers n, enum choice choice)
         encrypt_selector_of(&r, i);
     set_job(&a, &r);
     if (accept_or_9(&a) == 0) {
-        accepted[n.N][n.d]++;
+        accepted[call->packing][n.N][n.d]++;
         read_words(r.sample, 2 * MAX_N, slice_of(&a, RESULT));
         check_phase(&a, &r);
         check_classes(&r);
@@ -160,24 +163,30 @@ static void run_round(struct numbers n, enum choice choice)
     free_arguments(&a);
 }
 
-/* About how many products of two words the tree takes for each digit of the gadget. */
-static uint64_t products(uint64_t N, uint64_t d)
+/* About how many products of two words a lookup takes for each digit of the gadget. */
+static uint64_t products(const struct call *call, uint64_t N, uint64_t d)
 {
-    return ((UINT64_C(1) << d) - 1) * 4 * N * N;
+    return gates_of(call, N, d) * 4 * N * N;
 }
 
 /* A round has time for so many products. One with a single digit may take more, and is then alone with its N and d. */
 static const uint64_t most_products = UINT64_C(1) << 27;
 
-static uint64_t most_digits(uint64_t N, uint64_t d)
+static uint64_t most_digits(const struct call *call, uint64_t N, uint64_t d)
 {
-    uint64_t digits = d ? most_products / products(N, d) : 32;
+    uint64_t digits = d ? most_products / products(call, N, d) : 32;
     return digits < 1 ? 1 : digits < 32 ? digits : 32;
 }
 
-static unsigned rounds_of(uint64_t N, uint64_t d)
+static unsigned rounds_of(const struct call *call, uint64_t N, uint64_t d)
 {
-    return products(N, d) > most_products ? 1 : N <= 64 ? 3 * CHOICES : CHOICES;
+    return products(call, N, d) > most_products ? 1 : N <= 64 && d <= 10 ? 3 * CHOICES : CHOICES;
+}
+
+/* The entries of a table that are looked up one after another: all of a small table, none of others. */
+static unsigned entries_of(uint64_t N, uint64_t d)
+{
+    return N <= 16 && d <= 6 ? 1u << d : 0;
 }
 
 /* Half of the gadgets have as many digits as they can, so that little is rounded away. */
@@ -197,10 +206,10 @@ static int is_quiet(struct numbers n)
  * Numbers with which amplitudes 0 are accepted. For every lawful N, L and d some lawful g is great enough for two
  * classes; then there are as many classes as were chosen, or fewer.
  */
-static struct numbers any_numbers(uint64_t N, uint64_t d)
+static struct numbers any_numbers(const struct call *call, uint64_t N, uint64_t d)
 {
-    struct gadget gadget = any_gadget(most_digits(N, d));
-    const uint64_t s[] = {1, N, 1 + below(N), 1 + below(N)};
+    struct gadget gadget = any_gadget(most_digits(call, N, d));
+    const uint64_t most = most_classes(call, N), s[] = {1, most, 1 + below(most), 1 + below(most)};
     struct numbers n = {.N = N, .g = gadget.g, .L = gadget.L, .M = 2, .s = s[below(4)], .d = d};
     while (!is_quiet(n))
         n.g++;
@@ -209,28 +218,54 @@ static struct numbers any_numbers(uint64_t N, uint64_t d)
     return n;
 }
 
-/* Where there is one round alone, its entries have all N classes: the last has 1,024 entries of 1,024 classes. */
-static void test_pair(uint64_t N, uint64_t d)
+/* Where there is one round alone, its entries have as many classes as they can: 1,024 entries of 1,024 at most. */
+static void test_pair(const struct call *call, uint64_t N, uint64_t d)
 {
-    unsigned rounds = rounds_of(N, d);
+    unsigned rounds = rounds_of(call, N, d);
     for (unsigned i = 0; i < rounds; i++) {
-        struct numbers n = any_numbers(N, d);
+        struct numbers n = any_numbers(call, N, d);
         if (rounds == 1)
-            n.s = N;
-        run_round(n, rounds == 1 ? SHARES : (enum choice)(i % CHOICES));
+            n.s = most_classes(call, N);
+        run_round(call, n, below(UINT64_C(1) << d), rounds == 1 ? SHARES : (enum choice)(i % CHOICES));
     }
 }
 
+/* Numbers with which every selector can have noise; the degree is small enough for such. */
+static struct numbers noisy_numbers(const struct call *call, uint64_t N, uint64_t d)
+{
+    struct numbers n = any_numbers(call, N, d);
+    while (most_amplitudes(n) < d)
+        n = any_numbers(call, N, d);
+    return n;
+}
+
+static void test_entries(const struct call *call, uint64_t N, uint64_t d)
+{
+    struct numbers n = noisy_numbers(call, N, d);
+    for (uint64_t h = 0; h < entries_of(N, d); h++)
+        run_round(call, n, h, SHARES);
+}
+
+static void test_lookup(const struct call *call)
+{
+    for (uint64_t N = 1; N <= MAX_N; N *= 2)
+        for (uint64_t d = 0; d <= most_selectors(call); d++) {
+            test_pair(call, N, d);
+            if (entries_of(N, d))
+                test_entries(call, N, d);
+        }
+}
+
 /* Every round of every N and d has had its job accepted. Returns how many that are. */
-static unsigned check_plan(void)
+static unsigned check_plan(const struct call *call)
 {
     unsigned sum = 0;
     for (uint64_t N = 1; N <= MAX_N; N *= 2)
-        for (uint64_t d = 0; d <= MAX_D; d++) {
-            at("N = %" PRIu64 ", d = %" PRIu64, N, d);
-            check(accepted[N][d] > 0 && accepted[N][d] == rounds_of(N, d), "%u jobs were accepted, not %u",
-                  accepted[N][d], rounds_of(N, d));
-            sum += accepted[N][d];
+        for (uint64_t d = 0; d <= most_selectors(call); d++) {
+            unsigned count = accepted[call->packing][N][d], want = rounds_of(call, N, d) + entries_of(N, d);
+            at("%s: N = %" PRIu64 ", d = %" PRIu64, call->name, N, d);
+            check(count > 0 && count == want, "%u jobs were accepted, not %u", count, want);
+            sum += count;
         }
     return sum;
 }
@@ -241,12 +276,13 @@ int main(int argc, char **argv)
     start("lookups");
     printf("lookups: seed %" PRIu64 "\n", seed);
     seed_random(seed);
-    for (uint64_t N = 1; N <= MAX_N; N *= 2)
-        for (uint64_t d = 0; d <= MAX_D; d++)
-            test_pair(N, d);
-    printf("lookups: %u jobs accepted, %u refused; %u selectors with an error as great as their amplitude\n",
-           check_plan(), refused, greatest);
-    at("all rounds");
-    check(refused > 400 && greatest > 400, "too few jobs of a kind");
+    for (size_t c = 0; all_lookups[c]; c++) {
+        refused = greatest = 0;
+        test_lookup(all_lookups[c]);
+        printf("lookups: %s, %u jobs accepted, %u refused; %u selectors with an error as great as their amplitude\n",
+               all_lookups[c]->name, check_plan(all_lookups[c]), refused, greatest);
+        at("%s: all rounds", all_lookups[c]->name);
+        check(refused > 400 && greatest > 400, "too few jobs of a kind");
+    }
     return finish();
 }

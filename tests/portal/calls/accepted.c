@@ -11,7 +11,7 @@ static void accept_numbers(const struct call *call, struct numbers n)
     struct arguments a = {0};
     at("lawful: %s with N = %" PRIu64, call->name, n.N);
     lawful(&a, call, n, n.N + n.M + n.m);
-    if (call == &lookup)
+    if (call->packing != NO_TABLE)
         accept_or_9(&a);
     else
         accept(&a);
@@ -22,7 +22,7 @@ static void accept_classes(const struct call *call, uint64_t N)
 {
     for (uint64_t M = 2; M <= 65536; M *= 2)
         for (uint64_t part = 0; part < 3; part++) {
-            struct numbers n = usual(N);
+            struct numbers n = usual(call, N);
             n.M = M;
             /* The first, a middle and the last value of s and of p. */
             n.s = part == 0 ? 1 : part == 1 ? (N + 1) / 2 : N;
@@ -37,7 +37,7 @@ static void accept_blocks(const struct call *call, uint64_t N)
 {
     const struct gadget gadgets[] = {{8, 2}, {16, 2}, {1, 32}, {1, 1}, {16, 1}, {7, 3}, {4, 8}, {2, 15}};
     for (size_t i = 0; i < sizeof gadgets / sizeof gadgets[0]; i++) {
-        struct numbers n = usual(N);
+        struct numbers n = usual(call, N);
         n.g = gadgets[i].g;
         n.L = gadgets[i].L;
         n.m = i % 2;
@@ -45,16 +45,17 @@ static void accept_blocks(const struct call *call, uint64_t N)
     }
 }
 
-/* Every number of selectors, then every number of classes and of classes in an entry. */
-static void accept_tables(uint64_t N)
+/* Every number of selectors that doesn't take long, then every number of classes and of classes in an entry. */
+static void accept_tables(const struct call *call, uint64_t N)
 {
-    struct numbers n = usual(N);
-    for (n.d = 0; n.d <= (N <= 16 ? 10 : N <= 128 ? 5 : 1); n.d++)
-        accept_numbers(&lookup, n);
+    const uint64_t most = UINT64_C(5) << 18;
+    struct numbers n = usual(call, N);
+    for (n.d = 0; n.d <= most_selectors(call) && gates_of(call, N, n.d) * N * N <= most; n.d++)
+        accept_numbers(call, n);
     n.d = 2;
     for (n.M = 2; n.M <= 65536; n.M *= 2)
-        for (n.s = 1; n.s <= N && N <= 16; n.s++)
-            accept_numbers(&lookup, n);
+        for (n.s = 1; n.s <= most_classes(call, N) && N <= 16; n.s++)
+            accept_numbers(call, n);
 }
 
 void test_accepted(void)
@@ -65,6 +66,7 @@ void test_accepted(void)
                 accept_blocks(all_calls[c], N);
             else
                 accept_classes(all_calls[c], N);
-    for (uint64_t N = 1; N <= 1024; N *= 2)
-        accept_tables(N);
+    for (size_t c = 0; all_lookups[c]; c++)
+        for (uint64_t N = 1; N <= 1024; N *= 2)
+            accept_tables(all_lookups[c], N);
 }

@@ -42,7 +42,7 @@ static void test_bounds(const struct call *call)
         for (uint64_t L = 1; g * L <= 32; L++)
             for (size_t d = 0; d < 4; d++)
                 for (size_t i = 0; i < 3; i++) {
-                    struct numbers n = usual(degrees[d]);
+                    struct numbers n = usual(call, degrees[d]);
                     n.g = g;
                     n.L = L;
                     n.A = amplitudes[i];
@@ -76,8 +76,8 @@ static void test_together(const struct call *call, struct numbers n, const char 
 
 void test_amplitudes(void)
 {
-    test_together(&external_product, usual(2), "AB");
-    test_together(&cmux, usual(2), "A01");
+    test_together(&external_product, usual(&external_product, 2), "AB");
+    test_together(&cmux, usual(&cmux, 2), "A01");
     test_bounds(&external_product);
     test_bounds(&cmux);
 }

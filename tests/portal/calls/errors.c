@@ -43,7 +43,7 @@ static void test_place(uint64_t N, uint64_t M, uint64_t s, uint64_t place)
 static void test_row_error(uint64_t N, size_t place, uint32_t error)
 {
     struct arguments a = {0};
-    lawful(&a, &encrypt_selector, usual(N), place);
+    lawful(&a, &encrypt_selector, usual(&encrypt_selector, N), place);
     struct bytes *errors = slice_of(&a, ROW_ERRORS);
     size_t other = (place + words_in(errors) / 2) % words_in(errors);
     for (size_t i = 0; i < words_in(errors); i++)
@@ -67,9 +67,10 @@ static void test_row_place(uint64_t N, size_t place)
 
 void test_errors(void)
 {
-    for (size_t place = 0; place < 2 * usual(4).L * 4; place++)
+    uint64_t L = usual(&encrypt_selector, 4).L;
+    for (size_t place = 0; place < 2 * L * 4; place++)
         test_row_place(4, place);
-    test_row_place(1024, 2 * usual(1024).L * 1024 - 1);
+    test_row_place(1024, 2 * L * 1024 - 1);
     for (uint64_t M = 2; M <= 65536; M *= 2) {
         test_place(1, M, 1, 0);
         for (uint64_t place = 0; place < 4; place++)

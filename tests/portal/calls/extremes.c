@@ -52,7 +52,7 @@ static void fill(struct bytes *b, enum kind kind, uint32_t word)
 static void test_combinations(const struct call *call, uint64_t N, struct gadget gadget)
 {
     struct arguments a = {0};
-    struct numbers n = usual(N);
+    struct numbers n = usual(call, N);
     size_t read = call->slices - call->written, choices = EXTREMES + 2, combinations = 1;
     n.g = gadget.g;
     n.L = gadget.L;
@@ -73,7 +73,7 @@ static void test_combinations(const struct call *call, uint64_t N, struct gadget
 static void test_each_word(const struct call *call, struct gadget gadget)
 {
     struct arguments a = {0};
-    struct numbers n = usual(4);
+    struct numbers n = usual(call, 4);
     n.g = gadget.g;
     n.L = gadget.L;
     for (size_t k = 0; k < call->slices - call->written; k++) {
@@ -115,7 +115,7 @@ static void test_few(const struct call *call, uint64_t N, size_t count)
 {
     struct arguments a = {0};
     at("%s, N = %" PRIu64 ": %zu words that are not 0", call->name, N, count);
-    lawful(&a, call, usual(N), count);
+    lawful(&a, call, usual(call, N), count);
     put_few(&a, count);
     accept(&a);
     free_arguments(&a);
@@ -125,7 +125,7 @@ static void test_few(const struct call *call, uint64_t N, size_t count)
 static void test_ones(const struct call *call, uint64_t N, size_t ones)
 {
     struct arguments a = {0};
-    lawful(&a, call, usual(N), ones);
+    lawful(&a, call, usual(call, N), ones);
     fill(slice_of(&a, KEY), KEY, 0);
     for (size_t i = 0; i < ones; i++)
         put_word(slice_of(&a, KEY), spread(i, (size_t)N), 1);

@@ -20,9 +20,9 @@ static void test_numbers_with(const struct call *call, struct numbers n, struct 
 /* A lookup is also tried with a higher limit, and without selectors, where its gadget is judged all the same. */
 static void test_gadget(const struct call *call, uint64_t N, struct gadget gadget)
 {
-    struct numbers n = usual(N);
+    struct numbers n = usual(call, N);
     test_numbers_with(call, n, gadget);
-    if (call != &lookup)
+    if (call->packing == NO_TABLE)
         return;
     n.M = 2;
     n.d = 1;

@@ -38,7 +38,7 @@ static void test_moved_word(const struct call *call, size_t from, size_t to)
 {
     struct arguments a = {0};
     at("%s: a word moved from slice %zu to slice %zu", call->name, from, to);
-    lawful(&a, call, usual(8), 3);
+    lawful(&a, call, usual(call, 8), 3);
     set_length(&a.slice[from], a.slice[from].length - 4);
     set_length(&a.slice[to], a.slice[to].length + 4);
     refuse(&a, 5);
@@ -50,7 +50,7 @@ static void test_long_slice(const struct call *call, size_t k)
 {
     struct arguments a = {0};
     at("%s: slice %zu is 4 GiB too long", call->name, k);
-    lawful(&a, call, usual(8), 3);
+    lawful(&a, call, usual(call, 8), 3);
     a.slice[k].beyond = (size_t)1 << 32;
     refuse(&a, 5);
     free_arguments(&a);
@@ -60,7 +60,7 @@ static void test_long_slice(const struct call *call, size_t k)
 static void test_other_value(const struct call *call, char letter, uint64_t value)
 {
     struct arguments a = {0};
-    lawful(&a, call, usual(8), 3);
+    lawful(&a, call, usual(call, 8), 3);
     uint64_t *number = number_of(&a, letter);
     if (number && *number != value) {
         at("%s: slices as for %c = %" PRIu64 ", which is %" PRIu64, call->name, letter, *number, value);
@@ -70,33 +70,33 @@ static void test_other_value(const struct call *call, char letter, uint64_t valu
     free_arguments(&a);
 }
 
-/* Usual values are N = 8, L = 3, s = 4 and d = 2. */
+/* Usual values are N = 8, L = 3, s = 4 and d = 2; in the vertical packing s = 1 and d = 3. */
 static void test_other_values(const struct call *call)
 {
     for (uint64_t N = 16; N <= 1024; N *= 2)
         test_other_value(call, 'N', N);
     for (uint64_t L = 1; L <= 4; L++)
         test_other_value(call, 'L', L);
-    for (uint64_t s = 1; s <= 8; s++)
+    for (uint64_t s = 1; s <= most_classes(call, 8); s++)
         test_other_value(call, 's', s);
-    for (uint64_t d = 0; d <= 10; d++)
+    for (uint64_t d = 0; d <= most_selectors(call); d++)
         test_other_value(call, 'd', d);
 }
 
 /* A lookup's slices, for every number of selectors: without any, blocks and amplitudes are empty. */
-static void test_selectors(void)
+static void test_selectors(const struct call *call)
 {
-    struct numbers n = usual(4);
-    for (n.d = 0; n.d <= 10; n.d++)
-        for (size_t k = 0; k < lookup.slices; k++)
-            test_slice(&lookup, n, k);
+    struct numbers n = usual(call, 4);
+    for (n.d = 0; n.d <= most_selectors(call); n.d++)
+        for (size_t k = 0; k < call->slices; k++)
+            test_slice(call, n, k);
 }
 
 static void test_call(const struct call *call)
 {
     for (size_t k = 0; k < call->slices; k++) {
         for (uint64_t N = 1; N <= 1024; N *= 2)
-            test_slice(call, usual(N), k);
+            test_slice(call, usual(call, N), k);
         for (size_t to = 0; to < call->slices; to++)
             if (to != k)
                 test_moved_word(call, k, to);
@@ -109,5 +109,6 @@ void test_lengths(void)
 {
     for (size_t c = 0; all_calls[c]; c++)
         test_call(all_calls[c]);
-    test_selectors();
+    for (size_t c = 0; all_lookups[c]; c++)
+        test_selectors(all_lookups[c]);
 }

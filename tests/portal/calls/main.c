@@ -15,6 +15,7 @@ int main(void)
     test_examples();
     test_block_examples();
     test_lookup_examples();
+    test_vertical_examples();
     test_accepted();
     test_refusals();
     test_numbers();

@@ -15,8 +15,8 @@ static int is_power(uint64_t v, uint64_t least, uint64_t most)
     return v == power;
 }
 
-/* What must be returned with these numbers, of which this one alone may be unlawful. */
-static uint32_t answer_for(struct numbers n, char letter)
+/* What a call must return with these numbers, of which this one alone may be unlawful. */
+static uint32_t answer_for(const struct call *call, struct numbers n, char letter)
 {
     switch (letter) {
     case 'N':
@@ -27,11 +27,11 @@ static uint32_t answer_for(struct numbers n, char letter)
     case 'M':
         return is_power(n.M, 2, 65536) ? 0 : 3;
     case 's':
-        return n.s >= 1 && n.s <= n.N ? 0 : 4;
+        return n.s >= 1 && n.s <= most_classes(call, n.N) ? 0 : 4;
     case 'p':
         return n.p < n.N ? 0 : 4;
     case 'd':
-        return n.d <= 10 ? 0 : 4;
+        return n.d <= most_selectors(call) ? 0 : 4;
     case 'A':
     case 'B':
     case '0':
@@ -54,11 +54,11 @@ static void empty_slices(struct arguments *a)
 static void test_value(const struct call *call, char letter, uint64_t N, uint64_t v)
 {
     struct arguments a = {0};
-    struct numbers n = usual(1);
+    struct numbers n = usual(call, 1);
     at("%s: %c = %" PRIu64 " beside N = %" PRIu64, call->name, letter, v, N);
     n.N = N;
     *value_of(&n, letter) = v;
-    uint32_t want = answer_for(n, letter);
+    uint32_t want = answer_for(call, n, letter);
     lawful(&a, call, n, v);
     if (want == 0) {
         accept_or_9(&a);
@@ -75,13 +75,13 @@ static void test_value(const struct call *call, char letter, uint64_t N, uint64_
 static void test_beside_lawful(const struct call *call, char letter, uint64_t v)
 {
     struct arguments a = {0};
-    struct numbers n = usual(8);
+    struct numbers n = usual(call, 8);
     *value_of(&n, letter) = v;
-    uint32_t want = answer_for(n, letter);
+    uint32_t want = answer_for(call, n, letter);
     if (want == 0)
         return;
     at("%s: %c = %" PRIu64 ", all else as for a lawful one", call->name, letter, v);
-    lawful(&a, call, usual(8), v);
+    lawful(&a, call, usual(call, 8), v);
     *number_of(&a, letter) = v;
     refuse(&a, want);
     free_arguments(&a);

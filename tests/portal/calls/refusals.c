@@ -23,9 +23,9 @@ static const struct fault faults[] = {
     {2, NUMBER, 'g', 0}, {2, NUMBER, 'g', 11}, {2, NUMBER, 'g', 17}, {2, NUMBER, 'g', UINT64_C(4294967303)},
     {2, NUMBER, 'L', 0}, {2, NUMBER, 'L', 5}, {2, NUMBER, 'L', 33}, {2, NUMBER, 'L', UINT64_C(4294967299)},
     {3, NUMBER, 'M', 0}, {3, NUMBER, 'M', 1}, {3, NUMBER, 'M', 24}, {3, NUMBER, 'M', 131072},
-    {4, NUMBER, 's', 0}, {4, NUMBER, 's', 9}, {4, NUMBER, 's', 3000},
+    {4, NUMBER, 's', 0}, {4, NUMBER, 's', 2}, {4, NUMBER, 's', 9}, {4, NUMBER, 's', 3000},
     {4, NUMBER, 'p', 8}, {4, NUMBER, 'p', 9}, {4, NUMBER, 'p', 3000},
-    {4, NUMBER, 'd', 11}, {4, NUMBER, 'd', 64}, {4, NUMBER, 'd', UINT64_C(4294967297)},
+    {4, NUMBER, 'd', 11}, {4, NUMBER, 'd', 17}, {4, NUMBER, 'd', 64}, {4, NUMBER, 'd', UINT64_C(4294967297)},
     {5, LENGTH, 0, 1}, {5, LENGTH, 0, (uint64_t)-1}, {5, LENGTH, 1, 4}, {5, LENGTH, 1, (uint64_t)-1},
     {5, LENGTH, 2, 1}, {5, LENGTH, 2, (uint64_t)-4}, {5, LENGTH, 3, 4}, {5, LENGTH, 3, (uint64_t)-4},
     {5, LENGTH, 4, 1}, {5, LENGTH, 4, (uint64_t)-4},
@@ -46,17 +46,25 @@ enum { FAULTS = sizeof faults / sizeof faults[0] };
 
 /*
  * N = 8, M = 16: the limit of errors and bounds is 134217728. g = 7, L = 3: g is lawful up to 10, L up to 4. A charge
- * is 3072 times the amplitude and 9216, so with two selectors 43685 is the least amplitude that is too great beside 0.
+ * is 3072 times the amplitude and 9216, so with two selectors 43685 is the least amplitude that is too great beside 0,
+ * and with three it is too great as well.
  */
 static void start_lawful(struct arguments *a, const struct call *call)
 {
-    lawful(a, call, usual(8), 7);
+    lawful(a, call, usual(call, 8), 7);
+}
+
+/* Up to where s and d are lawful goes by the call: what is at fault in one packing need not be in another. */
+static int is_lawful(const struct call *call, const struct fault *f)
+{
+    uint64_t most = f->what == 's' ? most_classes(call, 8) : f->what == 'd' ? most_selectors(call) : 0;
+    return f->value >= 1 && f->value <= most;
 }
 
 static int put_number_fault(struct arguments *a, const struct fault *f)
 {
     uint64_t *number = number_of(a, (char)f->what);
-    if (!number)
+    if (!number || is_lawful(a->call, f))
         return 0;
     *number = f->value;
     /* Numbers that are judged after the lengths have none to fit, and a bad length stays. */

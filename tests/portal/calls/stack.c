@@ -70,14 +70,19 @@ void test_stack(void)
 {
     for (size_t c = 0; all_calls[c]; c++)
         for (uint64_t N = 1; N <= 1024; N *= 32) {
-            struct numbers n = usual(N);
+            struct numbers n = usual(all_calls[c], N);
             test_numbers_of(all_calls[c], n);
             n.g = 1;
             n.L = 32;
             test_numbers_of(all_calls[c], n);
         }
-    /* The deepest tree: ten selectors, with noise that is accepted. */
-    for (uint64_t N = 1; N <= 1024; N *= 32)
-        test_numbers_of(&lookup, (struct numbers){.N = N, .M = 2, .s = N, .g = 8, .L = 2, .d = 10});
+    /* The most selectors, with noise that is accepted. */
+    for (size_t c = 0; all_lookups[c]; c++)
+        for (uint64_t N = 1; N <= 1024; N *= 32) {
+            struct numbers n = {.N = N, .M = 2, .g = 8, .L = 2};
+            n.s = most_classes(all_lookups[c], N);
+            n.d = most_selectors(all_lookups[c]);
+            test_numbers_of(all_lookups[c], n);
+        }
     printf("calls: at most %zu bytes of stack\n", greatest);
 }

@@ -12,7 +12,7 @@ static const uint32_t bad_key_words[] = {
 static void test_key(const struct call *call, uint64_t N, uint64_t place)
 {
     struct arguments a = {0};
-    lawful(&a, call, usual(N), place);
+    lawful(&a, call, usual(call, N), place);
     for (size_t i = 0; i < sizeof bad_key_words / sizeof bad_key_words[0]; i++) {
         at("%s, N = %" PRIu64 ": key word %" PRIu64 " is %" PRIu32, call->name, N, place, bad_key_words[i]);
         put_word(slice_of(&a, KEY), place, bad_key_words[i]);
@@ -57,31 +57,48 @@ static void test_classes_of_samples(uint64_t M)
 }
 
 /* With 32 digits of one bit nothing is rounded away, so that the noise is small enough for every M. */
-static void test_classes_of_tables(uint64_t M)
+static void test_classes_of_tables(const struct call *call, uint64_t M)
 {
     struct numbers n = {.N = 4, .M = M, .g = 1, .L = 32};
     for (n.d = 0; n.d <= 3; n.d++)
-        for (n.s = 1; n.s <= 4; n.s++)
+        for (n.s = 1; n.s <= most_classes(call, n.N); n.s++)
             for (uint64_t place = 0; place < n.s << n.d; place++)
-                test_class(&lookup, n, place);
+                test_class(call, n, place);
+}
+
+/* The last class of the largest table with N = 1. */
+static void test_last_class(const struct call *call)
+{
+    struct numbers n = {.N = 1, .M = 16, .s = 1, .g = 16, .L = 2, .d = most_selectors(call)};
+    test_class(call, n, (UINT64_C(1) << n.d) - 1);
 }
 
 /* 2^31 is an amplitude like any other: it isn't refused with 6, but makes a bound that is too great. */
-static void test_amplitude(uint64_t d, uint64_t place)
+static void test_amplitude(const struct call *call, uint64_t d, uint64_t place)
 {
     struct arguments a = {0};
-    struct numbers n = usual(2);
+    struct numbers n = usual(call, 2);
     n.d = d;
-    lawful(&a, &lookup, n, place);
+    lawful(&a, call, n, place);
     for (uint32_t bad = UINT32_MAX; bad > UINT32_C(2147483648); bad -= (bad - UINT32_C(2147483648) + 1) / 2) {
-        at("amplitude %" PRIu64 " of %" PRIu64 " is %" PRIu32, place, d, bad);
+        at("%s: amplitude %" PRIu64 " of %" PRIu64 " is %" PRIu32, call->name, place, d, bad);
         put_word(slice_of(&a, AMPLITUDES), place, bad);
         refuse(&a, 6);
     }
-    at("amplitude %" PRIu64 " of %" PRIu64 " is 2147483648", place, d);
+    at("%s: amplitude %" PRIu64 " of %" PRIu64 " is 2147483648", call->name, place, d);
     put_word(slice_of(&a, AMPLITUDES), place, UINT32_C(2147483648));
     check_call(&a, accept_or_9(&a) == 9, "such noise is too great");
     free_arguments(&a);
+}
+
+static void test_lookup(const struct call *call)
+{
+    for (uint64_t M = 2; M <= 65536; M *= 2)
+        test_classes_of_tables(call, M);
+    test_last_class(call);
+    for (uint64_t d = 1; d <= most_selectors(call); d++)
+        for (uint64_t place = 0; place < d; place++)
+            test_amplitude(call, d, place);
 }
 
 void test_words(void)
@@ -89,13 +106,9 @@ void test_words(void)
     for (size_t c = 0; all_calls[c]; c++)
         if (can_refuse(all_calls[c], 8))
             test_keys(all_calls[c]);
-    for (uint64_t M = 2; M <= 65536; M *= 2) {
+    for (uint64_t M = 2; M <= 65536; M *= 2)
         test_classes_of_samples(M);
-        test_classes_of_tables(M);
-    }
     test_class(&encrypt_classes, (struct numbers){.N = 1024, .M = 65536, .s = 1024}, 1023);
-    test_class(&lookup, (struct numbers){.N = 1, .M = 16, .s = 1, .g = 16, .L = 2, .d = 10}, 1023);
-    for (uint64_t d = 1; d <= 10; d++)
-        for (uint64_t place = 0; place < d; place++)
-            test_amplitude(d, place);
+    for (size_t c = 0; all_lookups[c]; c++)
+        test_lookup(all_lookups[c]);
 }

@@ -3,8 +3,8 @@
 
 #include <inttypes.h>
 
-/* A block of 32 rows for each polynomial, at degree 1,024; ten of them; and entries for ten selectors. */
-enum { MAX_WORDS = 131072, MAX_SAMPLE = 2048, MAX_BLOCKS = 10 * MAX_WORDS, MAX_TABLE = 1024 * 1024 };
+/* A block of 32 rows for each polynomial, at degree 1,024; one for each selector; and entries for ten selectors. */
+enum { MAX_WORDS = 131072, MAX_SAMPLE = 2048, MAX_BLOCKS = MAX_D * MAX_WORDS, MAX_TABLE = 1024 * 1024 };
 
 static uint64_t value(struct arguments *a, char letter)
 {
@@ -113,12 +113,12 @@ static struct answer sample_picked(struct arguments *a, uint32_t *want)
 static struct answer entry_looked_up(struct arguments *a, uint32_t *want)
 {
     static uint32_t blocks[MAX_BLOCKS], amplitudes[MAX_D], classes[MAX_TABLE];
-    struct job job = {gadget_of(a), (size_t)value(a, 'N'), (size_t)value(a, 's'), (size_t)value(a, 'd'), value(a, 'M'),
-                      blocks, amplitudes, classes};
+    struct numbers n = numbers_of(a);
+    struct job job = job_of(a->call, n, blocks, amplitudes, classes);
     read_words(blocks, MAX_BLOCKS, slice_of(a, BLOCKS));
     read_words(amplitudes, MAX_D, slice_of(a, AMPLITUDES));
     read_words(classes, MAX_TABLE, slice_of(a, CLASSES));
-    struct answer answer = limited(a, charges_of(&job), (UINT64_C(1) << job.d) - 1);
+    struct answer answer = limited(a, charges_of(&job), gates_of(a->call, n.N, n.d));
     if (answer.number == 0) {
         looked_up(want, &job);
         for (size_t i = 0; i < 2 * job.N * (job.d + 1); i++)
@@ -137,7 +137,7 @@ static struct answer expected(struct arguments *a, uint32_t *want)
         {&encrypt_classes, classes_encrypted}, {&decrypt_classes, classes_decrypted},
         {&decrypt_scalar, scalar_decrypted}, {&extract, extracted},
         {&encrypt_selector, selector_encrypted}, {&external_product, product_made}, {&cmux, sample_picked},
-        {&lookup, entry_looked_up},
+        {&lookup, entry_looked_up}, {&lookup_vertical, entry_looked_up},
     };
     for (size_t i = 0; i < sizeof formulas / sizeof formulas[0]; i++)
         if (formulas[i].call == a->call)

@@ -33,12 +33,23 @@ uint64_t *value_of(struct numbers *n, char letter)
     return NULL;
 }
 
-/* g*L is below 32, so that digits are rounded; the amplitudes differ, so that none passes for another. */
-struct numbers usual(uint64_t N)
+struct numbers numbers_of(const struct arguments *a)
+{
+    struct numbers n = {0};
+    for (size_t i = 0; a->call->numbers[i]; i++)
+        *value_of(&n, a->call->numbers[i]) = a->number[i];
+    return n;
+}
+
+/*
+ * g*L is below 32, so that digits are rounded; the amplitudes differ, so that none passes for another. Three selectors
+ * of a vertical lookup pick and rotate at N = 2 and 4; at N = 1 they pick alone, from N = 8 on they rotate alone.
+ */
+struct numbers usual(const struct call *call, uint64_t N)
 {
     return (struct numbers){
-        .N = N, .M = 16, .s = (N + 1) / 2, .p = N / 2, .g = 7, .L = 3, .m = 1, .A = 5, .B = 900, .A0 = 1000, .A1 = 2000,
-        .d = 2,
+        .N = N, .M = 16, .s = (most_classes(call, N) + 1) / 2, .p = N / 2, .g = 7, .L = 3, .m = 1, .A = 5, .B = 900,
+        .A0 = 1000, .A1 = 2000, .d = call->packing == VERTICAL ? 3 : 2,
     };
 }
 
@@ -53,7 +64,7 @@ static size_t count_of(struct arguments *a, char letter)
 static size_t entries(struct arguments *a)
 {
     size_t d = count_of(a, 'd');
-    return d <= 12 ? (size_t)1 << d : 0;
+    return d <= 17 ? (size_t)1 << d : 0;
 }
 
 static size_t exact_words(struct arguments *a, enum kind kind)

@@ -9,7 +9,7 @@
  *   lawful.c    lawful arguments for a call
  *   plain.c     the formulas of samples and classes
  *   block.c     the formulas of digits, blocks and the CMux
- *   tree.c      the formulas of the lookup
+ *   tree.c      the formulas of lookups
  *   accept.c    what a call with lawful arguments must report and write, by these formulas
  */
 #ifndef PORTAL_H
@@ -29,6 +29,9 @@ enum kind {
     BLOCKS, AMPLITUDES, WORK
 };
 
+/* How the table of a call, if it takes one, fills samples: a sample for each entry, or for consecutive entries. */
+enum packing { NO_TABLE, WHOLE_ENTRIES, VERTICAL };
+
 /* A slice as a call gets it. */
 struct lent {
     uint8_t *at;
@@ -45,13 +48,19 @@ struct call {
     uint32_t (*answer)(const uint64_t *number, const struct lent *slice);
     uint64_t (*bound)(const uint64_t *number, const struct lent *slice);
     uint64_t (*gates)(const uint64_t *number, const struct lent *slice);
+    enum packing packing;
 };
 
 extern const struct call encrypt_classes, decrypt_classes, decrypt_scalar, extract;
-extern const struct call encrypt_selector, external_product, cmux, lookup;
+extern const struct call encrypt_selector, external_product, cmux, lookup, lookup_vertical;
 
-/* Every call, then NULL. */
+/* Every call, then NULL; and every one with a table. */
 extern const struct call *const all_calls[];
+extern const struct call *const all_lookups[];
+
+/* The most selectors that a call takes; and the most classes of an entry, or of a sample, with this degree. */
+uint64_t most_selectors(const struct call *call);
+uint64_t most_classes(const struct call *call, uint64_t N);
 
 /* ---- bytes.c ---- */
 
@@ -156,8 +165,11 @@ struct numbers {
 /* The value with this letter. */
 uint64_t *value_of(struct numbers *n, char letter);
 
-/* Lawful numbers with this degree. Those for degree 1 are lawful with every degree. */
-struct numbers usual(uint64_t N);
+/* The numbers that a call is made with; those that it doesn't take are 0. */
+struct numbers numbers_of(const struct arguments *a);
+
+/* Lawful numbers of a call with this degree. Those for degree 1 are lawful with every degree. */
+struct numbers usual(const struct call *call, uint64_t N);
 
 /*
  * Arguments that a call accepts, if it accepts the numbers; a lookup can still refuse them with 9. Empty arguments
@@ -168,7 +180,7 @@ void lawful(struct arguments *a, const struct call *call, struct numbers n, uint
 /*
  * The exact length of slice k for the numbers, in bytes. A number of 4,096 or more counts by its lowest
  * twelve bits: these lengths fit if it is cut to any width from twelve bits up. d counts by its lowest six,
- * as in a shift, and 2^d is 0 from d = 13 on.
+ * as in a shift, and 2^d is 0 from d = 18 on.
  */
 size_t exact_length(struct arguments *a, size_t k);
 
@@ -218,7 +230,8 @@ void add_external(uint32_t *out, struct gadget gadget, size_t N, const uint32_t 
 
 /* ---- tree.c ---- */
 
-enum { MAX_D = 10 };
+/* The most selectors in any packing. */
+enum { MAX_D = 16 };
 
 /* 2^31: the greatest magnitude. */
 extern const uint64_t half_turn;
@@ -233,21 +246,30 @@ uint64_t unit_of(struct numbers n);
 /* The greatest sum of d amplitudes with which a lookup is accepted; 0 if there is none. */
 uint64_t most_amplitudes(struct numbers n);
 
+/* How many selectors of a lookup rotate a sample, from selector 0 up: none but in the vertical packing. */
+uint64_t rotating_of(const struct call *call, uint64_t N, uint64_t d);
+
+/* How many CMuxes a lookup takes. */
+uint64_t gates_of(const struct call *call, uint64_t N, uint64_t d);
+
 /* A lookup's job. Selector i has amplitude i and block i, entry h the s classes from h*s on. */
 struct job {
     struct gadget gadget;
-    size_t N, s, d;
+    size_t N, s, d, rotating;
     uint64_t M;
     const uint32_t *blocks, *amplitudes, *classes;
 };
 
+struct job job_of(const struct call *call, struct numbers n, const uint32_t *blocks, const uint32_t *amplitudes,
+                  const uint32_t *classes);
+
 /* The sum of the d charges. */
 uint64_t charges_of(const struct job *job);
 
-/* Coefficient i of the exact encoding of entry h. */
-uint32_t entry_at(const struct job *job, size_t h, size_t i);
+/* What the lookup of entry h makes where there is no noise, N words: the message of its sample, rotated. */
+void exact_message(uint32_t *message, const struct job *job, size_t h);
 
-/* The sample that the tree of CMuxes makes, 2*N words. */
+/* The sample that the CMuxes make, 2*N words. */
 void looked_up(uint32_t *sample, const struct job *job);
 
 /* ---- accept.c ---- */
