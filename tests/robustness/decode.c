@@ -26,7 +26,7 @@ static uint64_t take(struct reader *r, int bytes)
 
 /* ---- numbers ---- */
 
-static uint64_t lawful_value(char letter, uint64_t random, const struct numbers *n)
+static uint64_t lawful_value(const struct call *call, char letter, uint64_t random, const struct numbers *n)
 {
     uint64_t N = n->N >= 1 && n->N <= 1024 ? n->N : 1, g = n->g >= 1 && n->g <= 16 ? n->g : 1;
     switch (letter) {
@@ -35,7 +35,7 @@ static uint64_t lawful_value(char letter, uint64_t random, const struct numbers 
     case 'M':
         return UINT64_C(2) << random % 16;
     case 's':
-        return 1 + random % N;
+        return 1 + random % most_classes(call, N);
     case 'p':
         return random % N;
     case 'g':
@@ -45,7 +45,7 @@ static uint64_t lawful_value(char letter, uint64_t random, const struct numbers 
     case 'm':
         return random % 2;
     case 'd':
-        return random % (MAX_D + 1);
+        return random % (most_selectors(call) + 1);
     default:
         /* An amplitude of any size. */
         return random % (half_turn + 1) >> (random >> 59);
@@ -62,10 +62,10 @@ static uint64_t near_limit(uint64_t random)
 }
 
 /* Mostly lawful: with six numbers, about a third of the sets are lawful in all. */
-static uint64_t decoded_number(struct reader *r, char letter, const struct numbers *n)
+static uint64_t decoded_number(struct reader *r, const struct call *call, char letter, const struct numbers *n)
 {
     uint8_t choice = take_byte(r);
-    uint64_t random = take(r, 8), value = lawful_value(letter, random, n);
+    uint64_t random = take(r, 8), value = lawful_value(call, letter, random, n);
     if (choice < 216)
         return value;
     if (choice < 236)
@@ -75,14 +75,18 @@ static uint64_t decoded_number(struct reader *r, char letter, const struct numbe
     return random;
 }
 
-/* How many products of words an accepted call takes, at most; 0 if the call is refused or has little to do. */
+/*
+ * How many products of words an accepted call takes, at most; 0 if the call is refused or has little to do. A gate
+ * takes as long as some more products, which counts where there are many small ones.
+ */
 static uint64_t products(const struct call *call, const struct numbers *n)
 {
     uint64_t polynomials = strchr(call->numbers, 'L') ? 4 * n->L : 1;
-    uint64_t gates = call == &lookup && n->d <= MAX_D ? (1u << n->d) - 1 : 1;
     if (n->N > 1024 || polynomials > 4 * 32 || call == &extract || call == &decrypt_scalar)
         return 0;
-    return polynomials * n->N * n->N * gates;
+    if (call->packing != NO_TABLE && n->d <= most_selectors(call))
+        return (polynomials * n->N * n->N + 16) * gates_of(call, n->N, n->d);
+    return polynomials * n->N * n->N;
 }
 
 /* A set in 4,096 can take a second, one in 32 some milliseconds; the others are to take less than one. */
@@ -91,12 +95,14 @@ static uint64_t most_products(uint64_t random)
     return random < 16 ? 1 << 27 : random < 2048 ? 1 << 22 : 1 << 20;
 }
 
-/* Halves the degree until there is no more to do than that. */
-static void lower_degree(struct numbers *n, const struct call *call, uint64_t most)
+/* Halves the degree until there is no more to do than that; of more than ten selectors one is left out each time. */
+static void lower_numbers(struct numbers *n, const struct call *call, uint64_t most)
 {
     uint64_t from = n->N;
-    while (products(call, n) > most && n->N > 1)
+    while (products(call, n) > most && n->N > 1) {
         n->N /= 2;
+        n->d -= n->d > 10 && n->d <= most_selectors(call);
+    }
     if (n->N < from && n->s > n->N && n->s <= from)
         n->s = n->N;
     if (n->N < from && n->p >= n->N && n->p < from)
@@ -164,19 +170,27 @@ static void decode_content(struct reader *r, struct bytes *b, enum kind kind, ui
         put_word(b, random % words_in(b), extreme & 8 ? (uint32_t)M : extremes[extreme & 7]);
 }
 
+static const struct call *decoded_call(uint8_t which)
+{
+    size_t count = 0;
+    while (all_calls[count])
+        count++;
+    return all_calls[which % count];
+}
+
 void decode_input(struct arguments *a, struct place *place, const uint8_t *data, size_t size)
 {
     struct reader r = {data, size < INPUT ? size : INPUT};
     struct numbers n = {.N = 1, .M = 2};
     uint8_t which = take_byte(&r), whole_degree = take_byte(&r);
     uint64_t most = most_products(take(&r, 2));
-    a->call = all_calls[which % 8];
+    a->call = decoded_call(which);
     for (const char *letter = a->call->numbers; *letter; letter++)
-        *value_of(&n, *letter) = decoded_number(&r, *letter, &n);
+        *value_of(&n, *letter) = decoded_number(&r, a->call, *letter, &n);
     /* A lookup with more to do is kept as it is where its first amplitude makes its bound too great. */
-    int kept = a->call == &lookup && whole_degree < 8 && products(a->call, &n) > most;
+    int kept = a->call->packing != NO_TABLE && whole_degree < 8 && products(a->call, &n) > most;
     if (!kept)
-        lower_degree(&n, a->call, most);
+        lower_numbers(&n, a->call, most);
     for (size_t i = 0; a->call->numbers[i]; i++)
         a->number[i] = *value_of(&n, a->call->numbers[i]);
     for (size_t k = 0; k < a->call->slices; k++) {

@@ -20,8 +20,8 @@ enum { INPUT = 138 };
 
 /* ---- decode.c ---- */
 
-/* No slice is longer than the longest lawful one, the blocks of ten selectors, and a few bytes. */
-enum { MOST_BYTES = 10 * 4 * 32 * 1024 * 4 + 8 };
+/* No slice is longer than the longest lawful one, the blocks of all selectors, and a few bytes. */
+enum { MOST_BYTES = MAX_D * 4 * 32 * 1024 * 4 + 8 };
 
 /* Where a slice is lent: at the end of its room or at the beginning, so many bytes from there. */
 struct place {

@@ -66,7 +66,7 @@ static void catch_signals(void)
 static void prepare(void)
 {
     catch_signals();
-    mallopt(M_MMAP_THRESHOLD, 4 * MOST_BYTES);
+    mallopt(M_MMAP_THRESHOLD, 2 * MOST_BYTES);
     mallopt(M_TRIM_THRESHOLD, MAX_SLICES * MOST_BYTES);
 }
 
@@ -167,7 +167,7 @@ static void make_accepted(size_t written_from, struct answer want)
         return;
     check_kept(written_from);
     check_known(written_from);
-    if (a.call == &lookup)
+    if (a.call->packing != NO_TABLE)
         check_work(a.call->slices - 1);
     change_written(written_from);
     forget_written(written_from);

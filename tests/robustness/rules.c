@@ -21,7 +21,8 @@ static struct gadget gadget_of(struct arguments *a)
 static int wrong_place(struct arguments *a)
 {
     uint64_t N = value(a, 'N', 1), s = value(a, 's', 1);
-    return s == 0 || s > N || value(a, 'd', 0) > MAX_D || value(a, 'p', 0) >= N;
+    return s == 0 || s > most_classes(a->call, N) || value(a, 'd', 0) > most_selectors(a->call) ||
+           value(a, 'p', 0) >= N;
 }
 
 static int wrong_length(struct arguments *a)
@@ -76,7 +77,7 @@ static uint64_t bound_of(struct arguments *a)
         return greatest_error(slice_of(a, a->call == &encrypt_classes ? ERRORS : ROW_ERRORS));
     if (a->call == &external_product || a->call == &cmux)
         return charge_of(gadget_of(a), value(a, 'N', 0), value(a, 'A', 0)) + value(a, 'B', A0 > A1 ? A0 : A1);
-    return a->call == &lookup ? sum_of_charges(a) : 0;
+    return a->call->packing != NO_TABLE ? sum_of_charges(a) : 0;
 }
 
 /* Whether the arguments break the rule with this number; they break none before it. */
@@ -112,6 +113,6 @@ struct answer ruled(struct arguments *a)
     for (const uint32_t *rule = a->call->refusals; *rule; rule++)
         if (breaks(a, *rule))
             return (struct answer){*rule, *rule == 9 ? bound_of(a) : 0, 0};
-    uint64_t gates = a->call == &cmux ? 1 : (UINT64_C(1) << value(a, 'd', 0)) - 1;
+    uint64_t gates = a->call == &cmux ? 1 : gates_of(a->call, value(a, 'N', 1), value(a, 'd', 0));
     return (struct answer){0, bound_of(a), gates};
 }

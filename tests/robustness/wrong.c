@@ -63,13 +63,24 @@ uint64_t __wrap_cikenuma_extract_gates(EXTRACT(const uint8_t))
         const uint8_t *amplitudes, size_t length1, const uint8_t *classes, size_t length2, uint8_t *out, size_t length3, \
         uint8_t *work, size_t length4
 
+#define LOOKED_UP d, blocks, length0, amplitudes, length1, classes, length2, out, length3, work, length4
+
 uint32_t __real_cikenuma_lookup(LOOKUP), __wrap_cikenuma_lookup(LOOKUP);
+uint32_t __real_cikenuma_lookup_vertical(LOOKUP), __wrap_cikenuma_lookup_vertical(LOOKUP);
 
 uint32_t __wrap_cikenuma_lookup(LOOKUP)
 {
-    uint32_t number = __real_cikenuma_lookup(N, g, L, M, s, d, blocks, length0, amplitudes, length1, classes, length2,
-                                             out, length3, work, length4);
+    uint32_t number = __real_cikenuma_lookup(N, g, L, M, s, LOOKED_UP);
     if (wrong("work-left") && number == 0)
         work[length4 - 1] = 1;
     return number;
+}
+
+uint32_t __wrap_cikenuma_lookup_vertical(LOOKUP)
+{
+    int of_entries = wrong("vertical-classes") && s >= 1 && s <= N;
+    uint32_t number = __real_cikenuma_lookup_vertical(N, g, L, M, of_entries ? 1 : s, LOOKED_UP);
+    if (wrong("vertical-work-left") && number == 0)
+        work[0] = 1;
+    return wrong("vertical-selectors") && d > 10 && (number == 0 || number > 4) ? 4 : number;
 }
