@@ -2,9 +2,10 @@
 -- Assumes nothing.
 use mathlib.Core.Path.{_≡_, refl, ap, ap₂, sym, subst, _∙_}
 use mathlib.Core.Logic.{_⊎_, inl, inr}
-use Prim.Native.Nat.{ℕ, _+_, _-_, _*_, _^_, _≤_, _<_, min}
+use Prim.Native.Nat.{ℕ, _+_, _-_, _*_, _^_, _≤_, min}
 use native.Mathlib.Nat.{le-refl, add-zero, sub-zero, le-trans, mul-le-mul, min-le-left, min-le-right}
 use native.Mathlib.Omega.{arith}
+use lib.Count.{trailingZeros}
 use lib.Dec.{lit≤}
 use lib.Pow.{pow-mono, pow-add}
 use Rattle.ring.specs.Polynomial.{Degree, log}
@@ -78,6 +79,16 @@ vertical-one x ok e =
 rotations-vertical : (x : Numbers) → x .packing ≡ Vertical → rotations x ≡ min (log (x .N)) (x .d)
 unfolding rotations
 rotations-vertical x e = ap (λ q. rotating q (x .N) (x .d)) e
+
+-- With N = 1 nothing rotates: it is the plain tree in either packing.
+rotating-one : (q : Packing) (d : ℕ) → rotating q 1 d ≡ 0
+unfolding trailingZeros
+rotating-one Horizontal d = refl
+rotating-one Vertical d = omega arith
+
+pub rotations-one : (x : Numbers) → x .N ≡ 1 → rotations x ≡ 0
+unfolding rotations
+rotations-one x one = ap (λ N. rotating (x .packing) N (x .d)) one ∙ rotating-one (x .packing) (x .d)
 
 -- With N = 2^v, "gates are 2^(d - v) - 1 + v",
 pub vertical-gates : (x : Numbers) → x .packing ≡ Vertical → log (x .N) ≤ x .d → gateCount x ≡ 2 ^ (x .d - log (x .N)) - 1 + log (x .N)

@@ -1,5 +1,5 @@
 -- `lookup::rotations` meets its contract. Assumes nothing.
-use mathlib.Core.Path.{ap, ap₂, sym, _∙_}
+use mathlib.Core.Path.{ap, sym, _∙_}
 use Prim.Native.Nat.{min}
 use Rattle.lookup.specs.Numbers.{rotating, rotations}
 use borrow.Author.Needs.{needs}

@@ -2,13 +2,13 @@
 use native.Mathlib.Omega.{arith}
 use native.Mathlib.Nat.{suc-mul, le-of-lt}
 use mathlib.Core.Path.{_≡_, refl, ap, sym, _∙_}
-use Prim.Native.Nat.{ℕ, suc, _+_, _-_, _*_, _^_, _≤_, _<_}
-use lib.ListN.{length, getD}
+use Prim.Native.Nat.{ℕ, suc, _+_, _-_, _≤_, _<_}
+use lib.ListN.{length}
 use lib.Pow.{pow-mono}
 use Rattle.torus.specs.Bytes.{words}
 use Rattle.torus.proofs.Joined.{chunk-inside}
 use Rattle.lookup.specs.Numbers.{parameters}
-use Rattle.trgsw.specs.Parameters.{sampleSize, blockSize, cmuxSample}
+use Rattle.trgsw.specs.Parameters.{blockSize}
 use Rattle.lookup.specs.Lookup as Lookup
 use Rattle.lookup.proofs.Charges.{charges-none, charges-more, charges-up, fewer}
 use Rattle.lookup.proofs.BlindRotation.{blind-rotation-none, blind-rotation-more}

@@ -2,12 +2,12 @@
 use native.Mathlib.Omega.{arith}
 use native.Mathlib.Nat.{le-refl, mul-le-mul}
 use mathlib.Core.Path.{_≡_, ap, ap₂, sym, subst, _∙_}
-use Prim.Native.Nat.{ℕ, _+_, _-_, _*_, _/_, _^_, _≤_, _<_}
+use Prim.Native.Nat.{ℕ, _+_, _-_, _/_, _^_, _≤_, _<_}
 use lib.ListN.{length, replicate}
 use lib.Pow.{pow-pos}
 use Rattle.torus.specs.Bytes.{words}
 use Rattle.lookup.specs.Numbers.{parameters, rotations, levels}
-use Rattle.trgsw.specs.Parameters.{sampleSize, blockSize, cmuxSample}
+use Rattle.trgsw.specs.Parameters.{blockSize}
 use Rattle.lookup.specs.Lookup as Lookup
 use Rattle.lookup.specs.Inner.{Selectors, Run}
 use Rattle.lookup.proofs.Packings.{rotations-le, rotations-power}

@@ -10,7 +10,7 @@ use Rattle.ring.specs.Polynomial.{Degree}
 use Rattle.trlwe.specs.Sample.{rotatedSample}
 use Rattle.trgsw.specs.declared.Parameters.{Parameters}
 use Rattle.lookup.specs.Numbers.{parameters}
-use Rattle.trgsw.specs.Parameters.{sampleSize, blockSize, cmuxSample}
+use Rattle.trgsw.specs.Parameters.{sampleSize, cmuxSample}
 use Rattle.lookup.specs.Lookup as Lookup
 use Rattle.lookup.proofs.Runs.{front-made}
 use borrow.Author.Needs.{needs}

@@ -11,7 +11,6 @@ use Rattle.trlwe.specs.Classes.{message}
 use Rattle.trlwe.specs.Sample.{trivial}
 use Rattle.trgsw.specs.declared.Parameters.{Parameters}
 use Rattle.lookup.specs.Numbers.{sampleClasses}
-use Rattle.lookup.proofs.Packings.{sample-classes-le}
 use Rattle.lookup.proofs.Tables.{class-below}
 use Rattle.lookup.proofs.Runs.{leaf-inside}
 use borrow.Author.Needs.{needs}
