@@ -9,7 +9,7 @@ use trgsw::Parameters;
 ghost use mathlib.Core.Path.{_≡_};
 ghost use Prim.Native.Nat.{_^_, _≤_, min};
 ghost use Rattle.trgsw.specs.Parameters.{sampleSize, blockSize};
-ghost use Rattle.lookup.specs.Numbers.{LawfulNumbers, parameters, tableSize, rotations, levels, sampleClasses, gateCount};
+ghost use Rattle.lookup.specs.Numbers.{LawfulNumbers, parameters, tableSize, rotations, sampleClasses, gateCount};
 ghost use Rattle.lookup.specs.Job.{Job};
 ghost use Rattle.lookup.specs.Calls as Calls;
 
@@ -32,12 +32,12 @@ pub struct Numbers {
     pub d: u64,
 }
 
-// The number of entries that d selectors name: 2^d.
-fn entries(d: u64) -> u64
-    requires { ⌜ d ≤ 16 ⌝ }
-    ensures { λ r. ⌜ r ≡ 2 ^ d ⌝ }
+// 2^i: as many entries are named by i selectors, and by as many places does selector i rotate.
+fn power(i: u64) -> u64
+    requires { ⌜ i ≤ 16 ⌝ }
+    ensures { λ r. ⌜ r ≡ 2 ^ i ⌝ }
 {
-    1u64 << d as u32
+    1u64 << i as u32
 }
 
 // The smaller of two numbers.
@@ -64,7 +64,7 @@ fn sample_classes(x: Numbers) -> u64
     requires { ⌜ LawfulNumbers x ⌝ }
     ensures { λ r. ⌜ (r ≡ sampleClasses x) × (r ≤ x .N) ⌝ }
 {
-    x.s * entries(rotations(x))
+    x.s * power(rotations(x))
 }
 
 // The CMuxes of a lookup: those of the tree, and one for each step of the rotation.
@@ -73,7 +73,7 @@ fn gate_count(x: Numbers) -> u64
     ensures { λ r. ⌜ r ≡ gateCount x ⌝ }
 {
     let turns = rotations(x);
-    entries(x.d - turns) - 1 + turns
+    power(x.d - turns) - 1 + turns
 }
 
 // The parameter set of a lookup: one mask, and keys of up to N ones.
@@ -116,7 +116,7 @@ pub fn table_size(x: Numbers) -> u64
     requires { ⌜ LawfulNumbers x ⌝ }
     ensures { λ r. ⌜ (r ≡ tableSize x) × (r ≤ 1048576) ⌝ }
 {
-    x.s * entries(x.d)
+    x.s * power(x.d)
 }
 
 // What lookup answers.

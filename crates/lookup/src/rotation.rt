@@ -34,8 +34,8 @@ fn step(
 {
     let p = crate::parameters(x);
     let own = sample.len();
-    let exponent = crate::entries(i as u64) as usize;
-    trlwe::rotate(&mut work[0..own], sample, p.k, p.N, exponent);
+    let places = crate::power(i as u64) as usize;
+    trlwe::rotate(&mut work[0..own], sample, p.k, p.N, places);
     crate::tree::join(sample, work, blocks, amplitudes, x, i, ledger)
 }
 

@@ -9,21 +9,21 @@ use borrow.Author.Needs.{needs}
 use Rattle.lookup.proofs.gate_count.Statement.{statement}
 use Rattle.lookup.proofs.gate_count.Tie as tie
 
-abbrev start : tie.After-entries → tie.Start
+abbrev start : tie.After-power → tie.Start
 start c = c .before .before .before
 
 -- The samples that the tree picks from.
-samples : (c : tie.After-entries) → c .entries .result ≡ 2 ^ levels (start c .args .x)
-samples c = c .entries .ensures ∙ ap (λ r. 2 ^ (start c .args .x .d - r)) (c .before .before .rotations .ensures)
+samples : (c : tie.After-power) → c .power .result ≡ 2 ^ levels (start c .args .x)
+samples c = c .power .ensures ∙ ap (λ r. 2 ^ (start c .args .x .d - r)) (c .before .before .rotations .ensures)
 
 rotations-requires : tie.Need-rotations-requires
 rotations-requires c κs = search needs
 
-sub-entries : tie.Need-sub-entries
-sub-entries c = omega (arith, c .before .rotations .ensures, rotations-le (c .before .before .args .x))
+sub-power : tie.Need-sub-power
+sub-power c = omega (arith, c .before .rotations .ensures, rotations-le (c .before .before .args .x))
 
-entries-requires : tie.Need-entries-requires
-entries-requires c κs = omega (arith, depth-le (c .before .before .args .x) (c .before .before .pre))
+power-requires : tie.Need-power-requires
+power-requires c κs = omega (arith, depth-le (c .before .before .args .x) (c .before .before .pre))
 
 sub-result : tie.Need-sub-result
 sub-result c = omega (arith, samples c, pow-pos (levels (start c .args .x)))
@@ -49,4 +49,4 @@ returns c = omega (arith, samples c, c .before .before .rotations .ensures)
 pub gate-count-spec : {M : Type 1} → statement M
 gate-count-spec =
     tie.close
-    (tie.spec rotations-requires sub-entries entries-requires sub-result add-result returns)
+    (tie.spec rotations-requires sub-power power-requires sub-result add-result returns)

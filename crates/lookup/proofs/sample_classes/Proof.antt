@@ -12,14 +12,14 @@ abbrev start : tie.After-struct-known → tie.Start
 start c = c .before .before .before
 
 -- What is computed is the number of these classes.
-made : (c : tie.After-struct-known) → start c .args .x .s * c .before .entries .result ≡ sampleClasses (start c .args .x)
-made c = ap (λ e. start c .args .x .s * e) (c .before .entries .ensures ∙ ap (λ r. 2 ^ r) (c .before .before .rotations .ensures))
+made : (c : tie.After-struct-known) → start c .args .x .s * c .before .power .result ≡ sampleClasses (start c .args .x)
+made c = ap (λ e. start c .args .x .s * e) (c .before .power .ensures ∙ ap (λ r. 2 ^ r) (c .before .before .rotations .ensures))
 
 rotations-requires : tie.Need-rotations-requires
 rotations-requires c κs = search needs
 
-entries-requires : tie.Need-entries-requires
-entries-requires c κs = omega (arith, c .rotations .ensures, rotations-le (c .before .args .x), depth-le (c .before .args .x) (c .before .pre))
+power-requires : tie.Need-power-requires
+power-requires c κs = omega (arith, c .rotations .ensures, rotations-le (c .before .args .x), depth-le (c .before .args .x) (c .before .pre))
 
 mul-result : tie.Need-mul-result
 mul-result c = record { fits = omega (arith, made c, sample-classes-le (start c .args .x) (start c .pre), start c .pre .degree .most) }
@@ -28,4 +28,4 @@ returns : tie.Need-returns
 returns c = (made c, omega (arith, made c, sample-classes-le (start c .args .x) (start c .pre)))
 
 pub sample-classes-spec : {M : Type 1} → statement M
-sample-classes-spec = tie.close (tie.spec rotations-requires entries-requires mul-result returns)
+sample-classes-spec = tie.close (tie.spec rotations-requires power-requires mul-result returns)

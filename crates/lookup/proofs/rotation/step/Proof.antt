@@ -27,8 +27,8 @@ own-size c = subst (λ p. length (start c .args .sample .now) ≡ 4 * sampleSize
 parameters-requires : tie.Need-parameters-requires
 parameters-requires c κs = search needs
 
-entries-requires : tie.Need-entries-requires
-entries-requires c κs = search needs
+power-requires : tie.Need-power-requires
+power-requires c κs = search needs
 
 sub-rotate : tie.Need-sub-rotate
 sub-rotate c = search needs
@@ -47,7 +47,7 @@ rotate-requires c κs =
       subst (λ q. Degree (q .N)) (sym (P .parameters .ensures)) (s .pre .0 .lawful .degree),
       front-length (length (s .args .sample .now)) (s .args .work .now) (s .pre .3) ∙ own-size P,
       own-size P,
-      subst (λ q. E .entries .result ≤ q .N) (sym (P .parameters .ensures)) (omega (arith, E .entries .ensures, s .pre .1)),
+      subst (λ q. E .power .result ≤ q .N) (sym (P .parameters .ensures)) (omega (arith, E .power .ensures, s .pre .1)),
     )
 
 join-requires : tie.Need-join-requires
@@ -74,7 +74,7 @@ returns c =
     let own = length (a .sample .now) in
     let made : words (R .rotate .last .0) ≡ rotatedSample (p .N) (p .k) (2 ^ a .i) (words (a .sample .now)) =
     R .rotate .ensures
-    ∙ ap₂ (λ (q : Parameters) (e : ℕ). rotatedSample (q .N) (q .k) e (words (a .sample .now))) (P .parameters .ensures) (E .entries .ensures) in (
+    ∙ ap₂ (λ (q : Parameters) (e : ℕ). rotatedSample (q .N) (q .k) e (words (a .sample .now))) (P .parameters .ensures) (E .power .ensures) in (
       J .ensures .0
           ∙ ap (λ (y : List ℕ). cmuxSample p (Lookup.selector p (a .i) (words (a .blocks .now))) (words (a .sample .now)) y)
           (front-made (sampleSize p) (own - 0) (a .work .now) (R .rotate .last .0) (omega (arith, start P .pre .2)) (omega (arith, R .rotate .kept .0)) ∙ made),
@@ -87,7 +87,7 @@ step-spec =
     tie.close
     (tie.spec
     parameters-requires
-    entries-requires
+    power-requires
     sub-rotate
     part-rotate-start
     part-rotate-end
