@@ -42,7 +42,7 @@ pub fn run(call: Call, numbers: &[u64], slices: &[&[u8]]) -> Outcome {
         Call::EncryptSelector => blocks::encrypt_selector(numbers, slices),
         Call::ExternalProduct => blocks::external_product(numbers, slices),
         Call::Cmux => blocks::cmux(numbers, slices),
-        Call::Lookup => lookups::lookup(numbers, slices),
+        Call::Lookup | Call::LookupVertical => lookups::lookup(call, numbers, slices),
     };
     outcome(answer)
 }

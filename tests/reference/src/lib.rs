@@ -1,4 +1,4 @@
-//! A second, plain implementation of the lookups, from the thesis and document 01 alone.
+//! A second, plain implementation of the lookups, from the thesis and documents 01 and 02 alone.
 //!
 //! Integers are signed and 64 bits wide, products are schoolbook ones, and words are reduced modulo 2^32
 //! at the end of each operation.

@@ -33,6 +33,13 @@ pub fn product(integers: &[i64], words: &[i64]) -> Polynomial {
     sums.into_iter().map(word).collect()
 }
 
+/// The polynomial times X^(-places), of fewer places than it has coefficients. Those that pass the end return
+/// with their sign changed.
+pub fn rotated(words: &[i64], places: usize) -> Polynomial {
+    let (pass, stay) = words.split_at(places);
+    stay.iter().copied().chain(pass.iter().map(|&coefficient| word(-coefficient))).collect()
+}
+
 #[cfg(test)]
 mod tests {
     use super::*;
@@ -52,5 +59,16 @@ mod tests {
         let x = [0, 1, 0, 0];
         let powers = (1..8).fold(x.to_vec(), |power, _| product(&x, &power));
         assert_eq!(powers, [1, 0, 0, 0]);
+    }
+
+    #[test]
+    fn a_power_of_x_undoes_a_rotation() {
+        let words = [5, 7, 0, 2147483648];
+        assert_eq!(rotated(&words, 1), [7, 0, 2147483648, 4294967291]);
+        for places in 0..4 {
+            let mut power = zero(4);
+            power[places] = 1;
+            assert_eq!(product(&power, &rotated(&words, places)), words);
+        }
     }
 }

@@ -1,7 +1,7 @@
 //! Packed samples (TRLWE): a mask polynomial and a body polynomial.
 
 use crate::classes::Classes;
-use crate::polynomial::{difference, product, sum, zero, Polynomial};
+use crate::polynomial::{difference, product, rotated, sum, zero, Polynomial};
 
 #[derive(Clone, Debug, PartialEq, Eq)]
 pub struct Sample {
@@ -41,6 +41,11 @@ impl Sample {
 
     pub fn minus(&self, other: &Sample) -> Sample {
         Sample { mask: difference(&self.mask, &other.mask), body: difference(&self.body, &other.body) }
+    }
+
+    /// The sample times X^(-places).
+    pub fn rotated(&self, places: usize) -> Sample {
+        Sample { mask: rotated(&self.mask, places), body: rotated(&self.body, places) }
     }
 
     /// The sample times a polynomial of small integers.

@@ -30,12 +30,12 @@ pub fn class_count(m: u64) -> Result<Classes, Refusal> {
     Ok(Classes::new(m))
 }
 
-pub fn carried(s: u64, n: u64) -> Checked {
-    check(4, s > 0 && s <= n)
+pub fn carried(s: u64, most: u64) -> Checked {
+    check(4, s > 0 && s <= most)
 }
 
-pub fn depth(d: u64) -> Checked {
-    check(4, d <= 10)
+pub fn depth(d: u64, most: u64) -> Checked {
+    check(4, d <= most)
 }
 
 pub fn position(p: u64, n: u64) -> Checked {

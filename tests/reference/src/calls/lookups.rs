@@ -1,4 +1,4 @@
-//! The lookup in a public table.
+//! The lookups in a public table, in either packing.
 
 use super::bytes::all_words;
 use super::{checks, Answer, Call};
@@ -6,14 +6,15 @@ use crate::lookup::look_up;
 use crate::trgsw::{charge, Block};
 use crate::trlwe::Sample;
 
-pub fn lookup(numbers: &[u64], slices: &[&[u8]]) -> Answer {
+pub fn lookup(call: Call, numbers: &[u64], slices: &[&[u8]]) -> Answer {
+    let packing = call.packing().expect("a call with a table");
     let [n, g, l, m, s, d] = checks::numbers_of(numbers);
     checks::degree(n)?;
     let gadget = checks::gadget(g, l)?;
     let classes = checks::class_count(m)?;
-    checks::carried(s, n)?;
-    checks::depth(d)?;
-    checks::lengths(Call::Lookup, numbers, slices)?;
+    checks::carried(s, packing.most_carried(n))?;
+    checks::depth(d, packing.most_selectors())?;
+    checks::lengths(call, numbers, slices)?;
     let [blocks, amplitudes, table, _, work] = all_words(slices);
     let declared: Vec<u64> = amplitudes.iter().map(|&amplitude| amplitude as u64).collect();
     checks::amplitudes(&declared)?;
@@ -24,56 +25,75 @@ pub fn lookup(numbers: &[u64], slices: &[&[u8]]) -> Answer {
     let block_length = 4 * gadget.digits() * degree;
     let blocks: Vec<Block> =
         blocks.chunks(block_length).map(|words| Block::from_words(gadget, words)).collect();
-    let entry = |list: &[i64]| Sample::trivial(classes.message(list, degree));
-    let sample = look_up(&blocks, table.chunks(s as usize).map(entry).collect());
-    checks::accepted(bound, (1 << d) - 1, vec![(3, sample.words()), (4, vec![0; work.len()])])
+    let rotating = packing.rotating(n, d) as usize;
+    let trivial = |list: &[i64]| Sample::trivial(classes.message(list, degree));
+    let samples = table.chunks((s as usize) << rotating).map(trivial).collect();
+    let sample = look_up(&blocks, rotating, samples);
+    let written = vec![(3, sample.words()), (4, vec![0; work.len()])];
+    checks::accepted(bound, packing.gates(n, d), written)
 }
 
 #[cfg(test)]
 mod tests {
     use crate::calls::{bytes_of, run, Call, Outcome};
 
-    /// Job J with another amplitude.
-    fn job_j(amplitude: i64) -> Outcome {
+    const LOOKUPS: [Call; 2] = [Call::Lookup, Call::LookupVertical];
+
+    /// Job J with another amplitude. With N = 1 every packing is the same.
+    fn job_j(call: Call, amplitude: i64) -> Outcome {
         let blocks = bytes_of(&[65536, 0, 1, 0, 0, 65536, 0, 1]);
         let amplitudes = bytes_of(&[amplitude]);
         let table = bytes_of(&[3, 8]);
         let slices = [&blocks[..], &amplitudes, &table, &[9; 8], &[9; 16]];
-        run(Call::Lookup, &[1, 16, 2, 16, 1, 1], &slices)
+        run(call, &[1, 16, 2, 16, 1, 1], &slices)
     }
 
-    /// Selectors of amplitude 1 with N = 1024, g = 8, L = 2 and M = 16, and blocks of words 0.
-    fn long_sample(depth: u64) -> Outcome {
-        let words = |count: usize| vec![0; 4 * count];
-        let d = depth as usize;
-        let [blocks, table, sample, work] = [d * 8192, 1 << d, 2048, 2048 * (d + 1)].map(words);
-        let amplitudes = bytes_of(&vec![1; d]);
-        let slices = [&blocks[..], &amplitudes, &table, &sample, &work];
-        run(Call::Lookup, &[1024, 8, 2, 16, 1, depth], &slices)
+    /// So many selectors of an amplitude, with g = 8 and L = 2, and words 0 in all other slices.
+    fn zeros(call: Call, n: u64, m: u64, s: u64, d: u64, amplitude: i64) -> Outcome {
+        let numbers = [n, 8, 2, m, s, d];
+        let words = |&count: &u128| vec![0; 4 * count as usize];
+        let mut slices: Vec<Vec<u8>> = call.exact_lengths(&numbers).iter().map(words).collect();
+        slices[1] = bytes_of(&vec![amplitude; d as usize]);
+        run(call, &numbers, &slices.iter().map(Vec::as_slice).collect::<Vec<_>>())
+    }
+
+    fn reported(outcome: &Outcome) -> (u32, u64, u64) {
+        (outcome.number, outcome.bound, outcome.gates)
     }
 
     #[test]
     fn job_j_gives_its_sample() {
-        let outcome = job_j(7);
-        assert_eq!((outcome.number, outcome.bound, outcome.gates), (0, 917504, 1));
-        assert_eq!(outcome.written, [(3, bytes_of(&[0, 2147483648])), (4, vec![0; 16])]);
+        for call in LOOKUPS {
+            let outcome = job_j(call, 7);
+            assert_eq!(reported(&outcome), (0, 917504, 1));
+            assert_eq!(outcome.written, [(3, bytes_of(&[0, 2147483648])), (4, vec![0; 16])]);
+        }
     }
 
     #[test]
     fn job_j_at_the_limit() {
-        let below = job_j(1023);
-        assert_eq!((below.number, below.bound, below.gates), (0, 134086656, 1));
-        let at = job_j(1024);
-        assert_eq!((at.number, at.bound, at.gates), (9, 134217728, 0));
-        assert!(at.written.is_empty());
+        for call in LOOKUPS {
+            assert_eq!(reported(&job_j(call, 1023)), (0, 134086656, 1));
+            let at = job_j(call, 1024);
+            assert_eq!(reported(&at), (9, 134217728, 0));
+            assert!(at.written.is_empty());
+        }
     }
 
     #[test]
     fn three_selectors_are_accepted_and_four_get_nine() {
-        let three = long_sample(3);
-        assert_eq!((three.number, three.bound, three.gates), (0, 3 * 34111488, 7));
-        let four = long_sample(4);
-        assert_eq!((four.number, four.bound, four.gates), (9, 4 * 34111488, 0));
+        for (call, gates) in LOOKUPS.into_iter().zip([7, 3]) {
+            assert_eq!(reported(&zeros(call, 1024, 16, 1, 3, 1)), (0, 3 * 34111488, gates));
+            assert_eq!(reported(&zeros(call, 1024, 16, 1, 4, 1)), (9, 4 * 34111488, 0));
+        }
+    }
+
+    #[test]
+    fn how_many_selectors_and_classes_goes_by_the_packing() {
+        let [whole, vertical] = LOOKUPS.map(|call| move |s, d| zeros(call, 2, 2, s, d, 0).number);
+        assert_eq!([whole(1, 10), whole(2, 10), whole(1, 11), whole(3, 1)], [0, 0, 4, 4]);
+        assert_eq!([vertical(1, 10), vertical(2, 10), vertical(1, 11), vertical(0, 1)], [0, 4, 0, 4]);
+        assert_eq!([vertical(1, 16), vertical(1, 17)], [0, 4]);
     }
 
     #[test]

@@ -1,5 +1,7 @@
 //! What each call takes: its numbers and slices in order, the exact lengths, and its possible refusals.
 
+use crate::lookup::Packing;
+
 #[derive(Clone, Copy, Debug, PartialEq, Eq, PartialOrd, Ord)]
 pub enum Call {
     EncryptClasses,
@@ -10,9 +12,10 @@ pub enum Call {
     ExternalProduct,
     Cmux,
     Lookup,
+    LookupVertical,
 }
 
-pub const CALLS: [Call; 8] = [
+pub const CALLS: [Call; 9] = [
     Call::EncryptClasses,
     Call::DecryptClasses,
     Call::DecryptScalar,
@@ -21,6 +24,7 @@ pub const CALLS: [Call; 8] = [
     Call::ExternalProduct,
     Call::Cmux,
     Call::Lookup,
+    Call::LookupVertical,
 ];
 
 #[derive(Clone, Copy, Debug, PartialEq, Eq)]
@@ -76,7 +80,8 @@ impl Call {
             }
             Call::ExternalProduct => ("external_product", &GATE[..5], &GATE_SLICES[1..], &[1, 2, 5, 6]),
             Call::Cmux => ("cmux", GATE, GATE_SLICES, &[1, 2, 5, 6]),
-            Call::Lookup => ("lookup", LOOKUP, LOOKUP_SLICES, &[1, 2, 3, 4, 5, 6, 7, 9]),
+            Call::Lookup => ("lookup", LOOKUP, LOOKUP_SLICES, LOOKUP_REFUSALS),
+            Call::LookupVertical => ("lookup_vertical", LOOKUP, LOOKUP_SLICES, LOOKUP_REFUSALS),
         };
         Signature { name, numbers, slices, refusals }
     }
@@ -97,11 +102,20 @@ impl Call {
             Call::EncryptSelector => vec![degree, rows, rows, block],
             Call::ExternalProduct => vec![block, sample, sample],
             Call::Cmux => vec![block, sample, sample, sample],
-            Call::Lookup => {
+            Call::Lookup | Call::LookupVertical => {
                 let depth = number(Number::Depth);
                 let table = times(&[carried, 1 << depth.min(100)]);
                 vec![times(&[depth, block]), depth, table, sample, times(&[sample, depth + 1])]
             }
+        }
+    }
+
+    /// The packing of its table, if it takes one.
+    pub fn packing(self) -> Option<Packing> {
+        match self {
+            Call::Lookup => Some(Packing::WholeEntries),
+            Call::LookupVertical => Some(Packing::Vertical),
+            _ => None,
         }
     }
 
@@ -127,6 +141,7 @@ const LOOKUP: &[Number] =
     &[Number::Degree, Number::BaseLog, Number::Digits, Number::ClassCount, Number::Carried, Number::Depth];
 const LOOKUP_SLICES: &[Slice] =
     &[Slice::Words, Slice::Amplitudes, Slice::ClassList, Slice::Written, Slice::Written];
+const LOOKUP_REFUSALS: &[u32] = &[1, 2, 3, 4, 5, 6, 7, 9];
 
 fn times(factors: &[u128]) -> u128 {
     factors.iter().fold(1, |so_far, &factor| so_far.saturating_mul(factor))

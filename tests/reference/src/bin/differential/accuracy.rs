@@ -9,6 +9,7 @@ use crate::crash;
 use crate::options::Options;
 use crate::parameters::{Effort, Parameters};
 use crate::random::Random;
+use reference::calls::Call;
 use reference::torus::distance;
 use std::collections::BTreeSet;
 use std::time::Instant;
@@ -20,14 +21,16 @@ enum Kind {
     /// A CMux with a block without errors, whose whole charge is for rounding.
     Rounding,
     Lookup,
+    LookupVertical,
 }
 
 /// What is measured, and how much of the charges a run has to meet at least once.
-const KINDS: [(Kind, &str, f64); 4] = [
+const KINDS: [(Kind, &str, f64); 5] = [
     (Kind::ExternalProduct, "external product", 0.95),
     (Kind::Cmux, "CMux", 0.95),
     (Kind::Rounding, "CMux, rounding alone", 0.95),
     (Kind::Lookup, "lookup", 0.5),
+    (Kind::LookupVertical, "vertical lookup", 0.5),
 ];
 
 /// A job that was within its bound.
@@ -84,7 +87,8 @@ fn run_job(seed: u64, job: u64) -> Result<Measured, String> {
     let mut random = Random::of_case(seed, job);
     let effort = Effort::of_round(job / KINDS.len() as u64);
     match KINDS[kind_of(job)].0 {
-        Kind::Lookup => lookups::run(effort, &mut random),
+        Kind::Lookup => lookups::run(Call::Lookup, effort, &mut random),
+        Kind::LookupVertical => lookups::run(Call::LookupVertical, effort, &mut random),
         kind => gates::run(kind, effort, &mut random),
     }
 }

@@ -1,4 +1,4 @@
-//! The 24 exports of the library under test, called with the numbers and slices of a call.
+//! The 27 exports of the library under test, called with the numbers and slices of a call.
 
 use reference::calls::Call;
 
@@ -58,6 +58,8 @@ exports!(cmux: cikenuma_cmux cikenuma_cmux_bound cikenuma_cmux_gates
     (n g l amplitude amplitude0 amplitude1) (block sample0 sample1 out));
 exports!(lookup: cikenuma_lookup cikenuma_lookup_bound cikenuma_lookup_gates
     (n g l m s d) (blocks amplitudes classes sample work));
+exports!(lookup_vertical: cikenuma_lookup_vertical cikenuma_lookup_vertical_bound cikenuma_lookup_vertical_gates
+    (n g l m s d) (blocks amplitudes classes sample work));
 
 /// # Safety
 /// Every slice can be read and written over its whole length, and none overlaps another.
@@ -71,6 +73,7 @@ pub unsafe fn call(call: Call, export: Export, numbers: &[u64], slices: &[Lent])
         Call::ExternalProduct => external_product::call,
         Call::Cmux => cmux::call,
         Call::Lookup => lookup::call,
+        Call::LookupVertical => lookup_vertical::call,
     };
     function(export, numbers, slices)
 }

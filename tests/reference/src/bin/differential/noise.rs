@@ -29,13 +29,14 @@ const ONE_BELOW: [(u64, u64, u64); 3] = [(2, 1, 16), (2, 5, 4), (4, 3, 128)];
 /// Parameters under which the plan can be kept: rounding alone can pass a lookup's limit. Without
 /// selectors every gadget can be used.
 pub fn parameters(call: Call, effort: Effort, plan: Plan, random: &mut Random) -> Parameters {
-    if call == Call::Lookup && plan == Plan::Below && !effort.stays_lawful() && random.one_in(16) {
+    let looks_up = call.packing().is_some();
+    if looks_up && plan == Plan::Below && !effort.stays_lawful() && random.one_in(16) {
         let (degree, depth, class_count) = random.pick(&ONE_BELOW);
         return Parameters { degree, base_log: 1, digits: 31, class_count, carried: 1, depth };
     }
     loop {
         let drawn = Parameters::draw(call, effort, random);
-        if call != Call::Lookup || plan != Plan::Below || spare_amplitude(&drawn) >= 0 {
+        if !looks_up || plan != Plan::Below || spare_amplitude(&drawn) >= 0 {
             return drawn;
         }
         if random.one_in(4) {

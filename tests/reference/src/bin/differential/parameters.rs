@@ -3,6 +3,7 @@
 use crate::random::Random;
 use reference::calls::Call;
 use reference::gadget::all_gadgets;
+use reference::lookup::Packing;
 
 #[derive(Clone, Copy, Debug)]
 pub struct Parameters {
@@ -61,13 +62,14 @@ impl Parameters {
             random.pick(&gadgets)
         });
         let depth = random.pick(&[depth, affordable_depth(call, degree, digits, effort)]);
-        let carried = 1 + random.below(degree);
+        let most_carried = call.packing().map_or(degree, |packing| packing.most_carried(degree));
+        let carried = 1 + random.below(most_carried);
         Parameters {
             degree,
             base_log,
             digits,
             class_count: 2 << random.below(16),
-            carried: random.pick(&[1, degree, carried]),
+            carried: random.pick(&[1, most_carried, carried]),
             depth,
         }
     }
@@ -81,17 +83,19 @@ fn affordable_degree(call: Call, digits: u64, effort: Effort, random: &mut Rando
 
 fn affordable_depth(call: Call, degree: u64, digits: u64, effort: Effort) -> u64 {
     let affordable = |&depth: &u64| cost(call, degree, digits, depth) <= effort.products;
-    (0..=10).rev().find(affordable).unwrap_or(0)
+    let most = call.packing().map_or(0, Packing::most_selectors);
+    (0..=most).rev().find(affordable).unwrap_or(0)
 }
 
 /// Word products of a call.
 fn cost(call: Call, degree: u64, digits: u64, depth: u64) -> u64 {
     let product = degree * degree;
+    let gates = call.packing().map_or(0, |packing| packing.gates(degree, depth));
     match call {
         Call::DecryptScalar | Call::Extract => degree,
         Call::EncryptClasses | Call::DecryptClasses => product,
         Call::EncryptSelector => 2 * digits * product,
         Call::ExternalProduct | Call::Cmux => 4 * digits * product,
-        Call::Lookup => (4 * digits * product) << depth,
+        Call::Lookup | Call::LookupVertical => 4 * digits * product * (1 + gates),
     }
 }

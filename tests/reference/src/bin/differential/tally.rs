@@ -4,6 +4,7 @@ use crate::arguments::Arguments;
 use reference::calls::{Call, Number, Outcome, Signature, CALLS};
 use reference::classes::Classes;
 use reference::gadget::all_gadgets;
+use reference::lookup::Packing;
 use std::collections::{BTreeMap, BTreeSet};
 
 #[derive(Default)]
@@ -12,12 +13,12 @@ pub struct Tally {
     answers: BTreeMap<(Call, u32), u64>,
     degrees: BTreeMap<(Call, u64), u64>,
     gadgets: BTreeSet<(Call, u64, u64)>,
-    depths: BTreeMap<u64, u64>,
+    depths: BTreeMap<(Call, u64), u64>,
     edges: BTreeSet<(Call, i64)>,
 }
 
 /// The calls that have a limit, and bounds less the limit that every run has to reach.
-const EDGED: [Call; 2] = [Call::EncryptClasses, Call::Lookup];
+const EDGED: [Call; 3] = [Call::EncryptClasses, Call::Lookup, Call::LookupVertical];
 const EDGES: [i64; 2] = [-1, 0];
 
 impl Tally {
@@ -34,9 +35,7 @@ impl Tally {
             let number = |role| arguments.number(role);
             *self.degrees.entry((call, number(Number::Degree))).or_default() += 1;
             self.gadgets.insert((call, number(Number::BaseLog), number(Number::Digits)));
-            if call == Call::Lookup {
-                *self.depths.entry(number(Number::Depth)).or_default() += 1;
-            }
+            *self.depths.entry((call, number(Number::Depth))).or_default() += 1;
         }
     }
 
@@ -56,15 +55,17 @@ impl Tally {
             let times = |degree| self.degrees.get(&(call, degree)).copied().unwrap_or(0);
             print_row(call.signature().name, degrees().map(times).map(text));
         }
-        println!("\naccepted lookups, by d from 0 to 10");
-        print_row("", (0..=10).map(|depth| self.depths.get(&depth).copied().unwrap_or(0)).map(text));
+        println!("\n{:<17}accepted, by d", "call");
+        print_row("", (0..=16).map(text));
+        for call in CALLS.into_iter().filter(|call| call.packing().is_some()) {
+            let times = |depth| self.depths.get(&(call, depth)).copied().unwrap_or(0);
+            print_row(call.signature().name, depths(call).map(times).map(text));
+        }
     }
 
     /// What every run has to reach and this one did not.
     pub fn missing(&self) -> Vec<String> {
         let mut missing: Vec<String> = CALLS.iter().flat_map(|&call| self.missing_in(call)).collect();
-        let depths = (0..=10).filter(|depth| !self.depths.contains_key(depth));
-        missing.extend(depths.map(|depth| format!("lookup: accepted with d = {depth}")));
         let edges = EDGED.map(|call| EDGES.map(|beyond| (call, beyond))).concat();
         let absent = edges.iter().filter(|edge| !self.edges.contains(edge));
         missing.extend(absent.map(|(call, beyond)| format!("{call:?}: a bound of the limit + {beyond}")));
@@ -78,6 +79,8 @@ impl Tally {
         missing.extend(absent.map(|number| format!("{name}: refusal {number}")));
         let absent = degrees().filter(|&degree| !self.degrees.contains_key(&(call, degree)));
         missing.extend(absent.map(|degree| format!("{name}: accepted with N = {degree}")));
+        let absent = depths(call).filter(|&depth| !self.depths.contains_key(&(call, depth)));
+        missing.extend(absent.map(|depth| format!("{name}: accepted with d = {depth}")));
         if numbers.contains(&Number::BaseLog) {
             let gadgets = all_gadgets().into_iter();
             let absent = gadgets.filter(|&(g, l)| !self.gadgets.contains(&(call, g, l)));
@@ -89,6 +92,11 @@ impl Tally {
 
 fn degrees() -> impl Iterator<Item = u64> {
     (0..=10).map(|log| 1 << log)
+}
+
+/// The lawful numbers of selectors; 0 alone for a call without a table.
+fn depths(call: Call) -> impl Iterator<Item = u64> {
+    0..=call.packing().map_or(0, Packing::most_selectors)
 }
 
 fn text(count: u64) -> String {
