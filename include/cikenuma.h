@@ -82,8 +82,8 @@
  *     1      0            N is not a power of two from 1 to 1,024
  *     2      0            g is not 1 to 16, L is 0, or g*L is above 32
  *     3      0            M is not a power of two from 2 to 65,536
- *     4      0            s is 0 or above N; d is above 10; position p is not below N; in the
- *                         vertical packing: s is not 1, d is above 16
+ *     4      0            s is 0 or above N; position p is not below N; d is above 10; but in the
+ *                         vertical packing: s is not 1, or d is above 16
  *     5      0            the length of a slice differs from the exact one
  *     6      0            a declared amplitude is above 2^31
  *     7      0            a class is not below M, or a selector bit is above 1

@@ -37,7 +37,8 @@ gadget g L = cond (isLawful g L) 0 2
 abbrev pub classNumber : ℕ → ℕ
 classNumber M = cond (isClassNumber M) 0 3
 
--- 4: "s is 0 or above N; d above 10; position p not below N". The most classes and the most selectors are the call's.
+-- 4: "s is 0 or above N; d above 10; position p not below N". N and 10 are what `most` is in the calls of document 01; lookups have their
+-- own by packing (`mostClasses`, `mostSelectors`).
 abbrev pub count : (most s : ℕ) → ℕ
 count most s = cond (leb 1 s && leb s most) 0 4
 

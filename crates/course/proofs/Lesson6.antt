@@ -25,7 +25,7 @@ use Rattle.lookup.specs.Lookup.{charges}
 use Rattle.lookup.specs.Job.{Job}
 use Rattle.lookup.specs.Calls.{lookup}
 use Rattle.lookup.specs.declared.Packing.the-variants.{Horizontal}
-use Rattle.lookup.proofs.Packings.{horizontal-gates, horizontal-depth}
+use Rattle.lookup.proofs.Packings.{gates-horizontal, depth-horizontal}
 use Rattle.lookup.proofs.Accepted.{Wellformed, lookup-noise}
 use Rattle.course.specs.Definitions.{negative, equalCharges, negateCoefficient, negateCoefficientSlice}
 
@@ -89,8 +89,8 @@ unfolding equalCharges
 lookup-equal j A horizontal ok same =
     let x = j .numbers in
     lookup-noise j ok
-    ∙ ap₂ (noise (x .M)) (charges-equal (parameters x) A (x .d) (words (j .amplitudes)) same) (horizontal-gates x horizontal)
-    ∙ sym (went-on _ _ (class-number-met (x .M) (ok .numbers .class-number)) ∙ went-on _ _ (depth-met 10 (x .d) (horizontal-depth x (ok .numbers) horizontal)))
+    ∙ ap₂ (noise (x .M)) (charges-equal (parameters x) A (x .d) (words (j .amplitudes)) same) (gates-horizontal x horizontal)
+    ∙ sym (went-on _ _ (class-number-met (x .M) (ok .numbers .class-number)) ∙ went-on _ _ (depth-met 10 (x .d) (depth-horizontal x (ok .numbers) horizontal)))
 
 -- Exercise 6.7. Write a call in small, `negate_coefficient`: it judges N, p and the length of a slice, and negates coefficient
 -- p in the slice, or refuses and changes nothing. Its contract has no premise. Compute first what `negateCoefficient` says of

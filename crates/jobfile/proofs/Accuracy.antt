@@ -7,7 +7,7 @@ use mathlib.Core.List.{List}
 use Prim.Native.Nat.{ℕ, _≤_, _<_}
 use lib.Dec.{eqb}
 use lib.ListN.{length}
-use borrow.Author.Tests.{eq-eqb, lt-ltb, le-ltb}
+use borrow.Author.Tests.{eq-eqb, ne-eqb, lt-ltb, le-ltb}
 use Rattle.torus.specs.Bytes.{AreBytes, bytes}
 use Rattle.answers.specs.Answers.{number, bound, _orElse_}
 use Rattle.answers.specs.declared.Answer.the-variants.{Refused}
@@ -56,6 +56,10 @@ file-packing file = refl
 pub packing-few : (s d : ℕ) → d ≤ 10 → filePacking s d ≡ Horizontal
 unfolding filePacking
 packing-few s d few = rw (le-ltb 10 d few, and-false (eqb s 1))
+
+pub packing-other : (s d : ℕ) → (s ≡ 1 → ⊥) → filePacking s d ≡ Horizontal
+unfolding filePacking
+packing-other s d other = rw (ne-eqb s 1 other)
 
 pub packing-many : (s d : ℕ) → s ≡ 1 → 10 < d → filePacking s d ≡ Vertical
 unfolding filePacking

@@ -52,8 +52,8 @@ fileJob x blocks amplitudes classes = record {
   work = replicate (4 * (sampleSize (parameters x) * (x .d + 1))) 0;
 }
 
--- A job that a file can be made of: its packing is the one that its numbers give, these are words, its parts have the lengths that they
--- give and are bytes.
+-- A job that a file can be made of: it has the packing of a file with its s and d, its numbers are words, and its parts are of bytes and
+-- have the lengths that these numbers give. So a job in the vertical packing with d up to 10 has no file.
 pub record Whole (j : Job) : Type 0 where
   pub packing : j .numbers .packing ≡ filePacking (j .numbers .s) (j .numbers .d)
   pub of-words : (i : ℕ) → getD (fileWords j) i 0 < 2 ^ 32

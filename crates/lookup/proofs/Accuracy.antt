@@ -39,7 +39,7 @@ use Rattle.lookup.proofs.Accepted.{Findable, lookup-accepted, lookup-ac
 use Rattle.lookup.proofs.Trees.{entry-number-lt}
 use Rattle.lookup.proofs.Noise.{Selects}
 use Rattle.lookup.proofs.LookedUp.{looked-up-below, length-looked-up, looked-up-none}
-use Rattle.lookup.proofs.Packings.{rotations-le, rotations-horizontal, horizontal-gates, vertical-one, vertical-gates, vertical-gates-few, classes-le}
+use Rattle.lookup.proofs.Packings.{rotations-le, rotations-horizontal, gates-horizontal, classes-vertical, gates-vertical, gates-vertical-few, classes-le}
 use Rattle.lookup.proofs.Tables.{chunk-one, named-word, named-used, named-whole, entry-below, entry-bytes, public-near, public-classes}
 
 module _ (j : Job) (accepted : IsAccepted j) where
@@ -59,14 +59,14 @@ module _ (j : Job) (accepted : IsAccepted j) where
 
   -- so in the horizontal packing "the gates are 2^d - 1",
   pub lookup-gates-horizontal : j .numbers .packing ≡ Horizontal → gates (lookup j) ≡ 2 ^ j .numbers .d - 1
-  lookup-gates-horizontal e = lookup-gates ∙ horizontal-gates (j .numbers) e
+  lookup-gates-horizontal e = lookup-gates ∙ gates-horizontal (j .numbers) e
 
   -- and in the vertical one, with N = 2^v, "2^(d - v) - 1 + v, or d when d is below v".
   pub lookup-gates-vertical : let x = j .numbers in x .packing ≡ Vertical → log (x .N) ≤ x .d → gates (lookup j) ≡ 2 ^ (x .d - log (x .N)) - 1 + log (x .N)
-  lookup-gates-vertical e h = lookup-gates ∙ vertical-gates (j .numbers) e h
+  lookup-gates-vertical e h = lookup-gates ∙ gates-vertical (j .numbers) e h
 
-  pub lookup-gates-few : let x = j .numbers in x .packing ≡ Vertical → x .d ≤ log (x .N) → gates (lookup j) ≡ x .d
-  lookup-gates-few e h = lookup-gates ∙ vertical-gates-few (j .numbers) e h
+  pub lookup-gates-vertical-few : let x = j .numbers in x .packing ≡ Vertical → x .d ≤ log (x .N) → gates (lookup j) ≡ x .d
+  lookup-gates-vertical-few e h = lookup-gates ∙ gates-vertical-few (j .numbers) e h
 
   -- ---- the sample that it leaves
 
@@ -186,7 +186,7 @@ accurate-vertical j bits key out answer sample accepted given packed holds =
     let x = j .numbers in
     let ok = lookup-accepted j accepted .job in
     let h : ℕ = named j bits in
-    let one : x .s ≡ 1 = vertical-one x (ok .numbers) packed in
+    let one : x .s ≡ 1 = classes-vertical x (ok .numbers) packed in
     let inside : h < length (words (j .classes)) =
     omega (arith, entry-number-lt bits (x .d) (given .bit), length-words (j .classes), ok .lengths .classes-length, ap (λ s. s * 2 ^ x .d) one) in
     let class : entryClasses x h (words (j .classes)) ≡ getD (words (j .classes)) h 0 ∷ [] =

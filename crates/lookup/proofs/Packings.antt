@@ -63,16 +63,16 @@ pub rotations-horizontal : (x : Numbers) → x .packing ≡ Horizontal → rotat
 unfolding rotations
 rotations-horizontal x e = ap (λ q. rotating q (x .N) (x .d)) e
 
-pub horizontal-gates : (x : Numbers) → x .packing ≡ Horizontal → gateCount x ≡ 2 ^ x .d - 1
-horizontal-gates x e =
+pub gates-horizontal : (x : Numbers) → x .packing ≡ Horizontal → gateCount x ≡ 2 ^ x .d - 1
+gates-horizontal x e =
     ap (λ (r : ℕ). 2 ^ (x .d - r) - 1 + r) (rotations-horizontal x e) ∙ add-zero _ ∙ ap (λ (n : ℕ). 2 ^ n - 1) (sub-zero (x .d))
 
-pub horizontal-depth : (x : Numbers) → LawfulNumbers x → x .packing ≡ Horizontal → x .d ≤ 10
-horizontal-depth x ok e = subst (λ q. x .d ≤ mostSelectors q) e (ok .depth)
+pub depth-horizontal : (x : Numbers) → LawfulNumbers x → x .packing ≡ Horizontal → x .d ≤ 10
+depth-horizontal x ok e = subst (λ q. x .d ≤ mostSelectors q) e (ok .depth)
 
 -- Paper 1's: an entry is one class.
-pub vertical-one : (x : Numbers) → LawfulNumbers x → x .packing ≡ Vertical → x .s ≡ 1
-vertical-one x ok e =
+pub classes-vertical : (x : Numbers) → LawfulNumbers x → x .packing ≡ Vertical → x .s ≡ 1
+classes-vertical x ok e =
     let most : x .s ≤ 1 = subst (λ q. x .s ≤ mostClasses q (x .N)) e (ok .most) in
     omega (arith, ok .some)
 
@@ -91,12 +91,12 @@ unfolding rotations
 rotations-one x one = ap (λ N. rotating (x .packing) N (x .d)) one ∙ rotating-one (x .packing) (x .d)
 
 -- With N = 2^v, "gates are 2^(d - v) - 1 + v",
-pub vertical-gates : (x : Numbers) → x .packing ≡ Vertical → log (x .N) ≤ x .d → gateCount x ≡ 2 ^ (x .d - log (x .N)) - 1 + log (x .N)
-vertical-gates x e h = let turns : rotations x ≡ log (x .N) = omega (arith, rotations-vertical x e) in ap (λ (r : ℕ). 2 ^ (x .d - r) - 1 + r) turns
+pub gates-vertical : (x : Numbers) → x .packing ≡ Vertical → log (x .N) ≤ x .d → gateCount x ≡ 2 ^ (x .d - log (x .N)) - 1 + log (x .N)
+gates-vertical x e h = let turns : rotations x ≡ log (x .N) = omega (arith, rotations-vertical x e) in ap (λ (r : ℕ). 2 ^ (x .d - r) - 1 + r) turns
 
 -- "or d when d is below v".
-pub vertical-gates-few : (x : Numbers) → x .packing ≡ Vertical → x .d ≤ log (x .N) → gateCount x ≡ x .d
-vertical-gates-few x e h =
+pub gates-vertical-few : (x : Numbers) → x .packing ≡ Vertical → x .d ≤ log (x .N) → gateCount x ≡ x .d
+gates-vertical-few x e h =
     let turns : rotations x ≡ x .d = omega (arith, rotations-vertical x e) in
     let none : levels x ≡ 0 = omega arith in
     ap₂ (λ (n r : ℕ). 2 ^ n - 1 + r) none turns ∙ omega arith
@@ -113,13 +113,13 @@ module _ (x : Numbers) (ok : LawfulNumbers x) where
   unfolding rotations
   rotations-power = rotating-power (x .packing) (x .N) (x .d) (ok .degree)
 
-  pub alone : (rotations x ≡ 0) ⊎ (x .s ≡ 1)
+  pub single : (rotations x ≡ 0) ⊎ (x .s ≡ 1)
   unfolding rotations
-  alone = one-or-one (x .packing) (x .N) (x .d) (x .s) (ok .some) (ok .most)
+  single = one-or-one (x .packing) (x .N) (x .d) (x .s) (ok .some) (ok .most)
 
   -- The classes of a sample of the table have room in it.
   pub sample-classes-le : sampleClasses x ≤ x .N
-  sample-classes-le = go alone
+  sample-classes-le = go single
     where
       go : (rotations x ≡ 0) ⊎ (x .s ≡ 1) → x .s * 2 ^ rotations x ≤ x .N
       go (inl e) = omega (arith, ap (λ n. x .s * 2 ^ n) e, classes-le)

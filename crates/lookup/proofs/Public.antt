@@ -35,7 +35,7 @@ module _ (j : Job) (ok : Wellformed j) where
       let few : 2 ^ levels x ≤ 2 ^ 16 = pow-mono {i = levels x} {j = 16} low in
       let fewer : levels x ≤ x .d = omega arith in
       record {
-        entries = omega arith;
+        leaves = omega arith;
         sample-length = ok .lengths .sample-length;
         work-length = omega (arith, ok .lengths .work-length, mul-le-mul fewer (le-refl (sampleSize p)));
         blocks-length = omega (arith, ok .lengths .blocks-length, ap (λ n. n * blockSize p) (rotations-levels x));

@@ -53,12 +53,12 @@ module _ (x : Numbers) (d e t : ℕ) (sample work blocks : ℕ) (classes : List 
   branch-small =
       let some : 1 ≤ 2 ^ e = pow-pos e in
       let two : 2 ≤ 2 ^ d = omega (arith, power-below d e l) in
-      omega (arith, mul-le-mul (le-refl (suc t)) two, r .entries)
+      omega (arith, mul-le-mul (le-refl (suc t)) two, r .leaves)
 
   -- The run u of level e, in the rest of the work slice.
   pub lower : (u rest : ℕ) → u ≤ 2 * t + 1 → rest + sample ≡ work → Run x e u sample rest blocks classes
   lower u rest h w = record {
-    entries = omega (arith, entries-inside d e t u l h, r .entries);
+    leaves = omega (arith, entries-inside d e t u l h, r .leaves);
     sample-length = r .sample-length;
     work-length = omega (arith, chunk-inside e d (sampleSize (parameters x)) l, r .work-length, r .sample-length);
     blocks-length = omega (arith, chunk-inside (rotations x + e) (rotations x + d) (blockSize (parameters x)) (omega arith), r .blocks-length);

@@ -31,7 +31,7 @@ use Rattle.lookup.specs.declared.Numbers.{Numbers}
 use Rattle.lookup.specs.Numbers.{LawfulNumbers, rotations, sampleClasses, tableSize}
 use Rattle.lookup.specs.Lookup.{entryClasses, entryMessage, tableMessage, namedMessage, lookedUp, charges}
 use Rattle.lookup.proofs.Trees.{entry-number-lt}
-use Rattle.lookup.proofs.Packings.{rotations-le, rotations-power, classes-le, alone, sample-classes-le}
+use Rattle.lookup.proofs.Packings.{rotations-le, rotations-power, classes-le, single, sample-classes-le}
 use Rattle.lookup.proofs.Noise.{Selects}
 use Rattle.lookup.proofs.LookedUp.{looked-up-near}
 
@@ -70,7 +70,7 @@ module _ (x : Numbers) (classes : List ℕ) (ok : LawfulNumbers x) (below : (i :
   pub named-used : (h i : ℕ) → i < x .s → namedMessage x h classes i ≡ entryMessage x h classes i
   named-used h i l =
       let r : ℕ = rotations x in
-      let at = class-place (x .s) r h i (alone x ok) l in
+      let at = class-place (x .s) r h i (single x ok) l in
       rotated-low (x .N) (h % 2 ^ r) (tableMessage x (h / 2 ^ r) classes) i (omega (arith, at .0, sample-classes-le x ok))
       ∙ message-used (x .M) (sampleClasses x) (chunk (sampleClasses x) (h / 2 ^ r) classes) (i + h % 2 ^ r) (at .0)
       ∙ ap (encode (x .M))

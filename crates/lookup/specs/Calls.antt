@@ -1,5 +1,5 @@
--- The public calls `lookup` and `lookup_vertical`, which differ in the packing among the job's numbers: the whole answer, and what it leaves in the slices that it writes. The answer has a line for each row of
--- document 01's table of returned numbers that applies.
+-- The lookup, which a public call offers in each packing: its whole answer, and what it leaves in the slices that it writes. The answer
+-- has a line for each row of document 01's table of returned numbers that applies.
 -- Assumes nothing.
 use mathlib.Core.Path.{_≡_}
 use mathlib.Core.List.{List}
@@ -38,7 +38,7 @@ lookup j =
 abbrev pub IsAccepted : Job → Type 0
 IsAccepted j = number (lookup j) ≡ 0
 
--- The words of the result, of all 2^d entries. "With d = 0 the result is the entry itself".
+-- The words of the result, of a table of 2^d entries. "With d = 0 the result is the entry itself".
 abbrev pub resultSample : Job → List ℕ
 resultSample j =
     let x = j .numbers in

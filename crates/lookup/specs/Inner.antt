@@ -27,7 +27,7 @@ pub record Leaf (x : Numbers) (t sample : ℕ) (classes : List ℕ) : Type 0 whe
 
 -- Of the slices, for run t of level d of the tree: their lengths in bytes, and classes below M.
 pub record Run (x : Numbers) (d t : ℕ) (sample work blocks : ℕ) (classes : List ℕ) : Type 0 where
-  pub entries : suc t * 2 ^ d ≤ 65536
+  pub leaves : suc t * 2 ^ d ≤ 65536
   pub sample-length : sample ≡ 4 * sampleSize (parameters x)
   pub work-length : 4 * (d * sampleSize (parameters x)) ≤ work
   pub blocks-length : 4 * ((rotations x + d) * blockSize (parameters x)) ≤ blocks

@@ -20,24 +20,29 @@ use Rattle.lookup.specs.Tree.{tree}
 abbrev pub selector : (p : Parameters) (i : ℕ) (blocks : List ℕ) → List ℕ
 selector p i blocks = chunk (blockSize p) i blocks
 
--- The sample of run t of level d, whatever samples the entries are. A selector joins two samples by its CMux; that of level i is
+-- ---- the tree and the rotation
+
+-- The sample of run t of level d, whatever samples the leaves are. A selector joins two samples by its CMux; that of level i is
 -- selector r + i, since the first r rotate.
-unfoldable pub treeSample : (p : Parameters) (blocks : List ℕ) (r : ℕ) (entry : (t : ℕ) → List ℕ) (d t : ℕ) → List ℕ
-treeSample p blocks r entry d t = tree (λ i. cmuxSample p (selector p (r + i) blocks)) entry d t
+unfoldable pub treeSample : (p : Parameters) (blocks : List ℕ) (r : ℕ) (leaf : (t : ℕ) → List ℕ) (d t : ℕ) → List ℕ
+treeSample p blocks r leaf d t = tree (λ i. cmuxSample p (selector p (r + i) blocks)) leaf d t
 
 -- "Rotation step i picks, by selector i, between the sample and the sample times X^(-2^i)",
 unfoldable pub rotationStep : (p : Parameters) (blocks : List ℕ) (i : ℕ) (x : List ℕ) → List ℕ
 rotationStep p blocks i x = cmuxSample p (selector p i blocks) x (rotatedSample (p .N) (p .k) (2 ^ i) x)
 
--- "lowest step first": the blind rotation by the first r selectors, the thesis's Algorithm 5 with the exponents 2^0 to 2^(r-1).
+-- "lowest step first": the blind rotation by the first r selectors, the thesis's Algorithm 5 with the exponents -2^0 to -2^(r-1). (The
+-- thesis multiplies by X^(+a_i) there, and has no sign where Algorithm 6 calls it; the paper's sign brings entry rho to the front.)
 unfoldable pub blindRotation : (p : Parameters) (blocks : List ℕ) (r : ℕ) (x : List ℕ) → List ℕ
 blindRotation p blocks zero x = x
 blindRotation p blocks (suc i) x = rotationStep p blocks i (blindRotation p blocks i x)
 
--- The sample of a lookup with d selectors, of which the first r rotate: the tree's, of all 2^(d-r) entries, rotated. It is the thesis's
+-- The sample of a lookup with d selectors, of which the first r rotate: the tree's, of all 2^(d-r) leaves, rotated. It is the thesis's
 -- Algorithm 6 up to its last line, the extraction; with r = 0 it is the tree alone.
-unfoldable pub lookedUp : (p : Parameters) (blocks : List ℕ) (r : ℕ) (entry : (t : ℕ) → List ℕ) (d : ℕ) → List ℕ
-lookedUp p blocks r entry d = blindRotation p blocks r (treeSample p blocks r entry (d - r) 0)
+unfoldable pub lookedUp : (p : Parameters) (blocks : List ℕ) (r : ℕ) (leaf : (t : ℕ) → List ℕ) (d : ℕ) → List ℕ
+lookedUp p blocks r leaf d = blindRotation p blocks r (treeSample p blocks r leaf (d - r) 0)
+
+-- ---- the noise bound
 
 -- "The bound is the sum of the d charges".
 unfoldable pub charges : (p : Parameters) (amplitudes : List ℕ) (d : ℕ) → ℕ
@@ -57,7 +62,7 @@ entryMessage x h classes i = message (x .M) (x .s) (entryClasses x h classes) i
 abbrev pub tableMessage : (x : Numbers) (t : ℕ) (classes : List ℕ) (i : ℕ) → ℕ
 tableMessage x t classes i = message (x .M) (sampleClasses x) (chunk (sampleClasses x) t classes) i
 
--- "Public entries are trivial packed samples."
+-- Sample t of the table. "Public entries are trivial packed samples."
 abbrev pub tableSample : (x : Numbers) (classes : List ℕ) (t : ℕ) → List ℕ
 tableSample x classes t = trivial (x .N) (masks x) (tableMessage x t classes)
 

@@ -33,24 +33,24 @@ pub record Premises (j : Job) (bits : ℕ → ℕ) (key out : List ℕ) : Type 0
 abbrev pub named : (j : Job) (bits : ℕ → ℕ) → ℕ
 named j bits = entryNumber bits (j .numbers .d)
 
--- Of an answer and a sample: each coefficient of the sample's phase is within the reported bound of what the lookup holds where the bits
--- name that entry, and "Decryption is called with the job's N, M and s", is accepted and lists that entry's classes.
-pub record Accurate (j : Job) (bits : ℕ → ℕ) (key out : List ℕ) (answer : Answer) (sample : List ℕ) : Type 0 where
-  pub within : (i : ℕ) → i < j .numbers .N → let x = j .numbers in
-      distance (phase (x .N) (masks x) (words key) (words sample) i) (namedMessage x (named j bits) (words (j .classes)) i) ≤ bound answer
+-- Of an answer and a sample, and a message: each coefficient of the sample's phase is within the reported bound of the message, and
+-- "Decryption is called with the job's N, M and s", is accepted and lists the classes of the entry that the bits name.
+pub record AccurateTo (j : Job) (bits : ℕ → ℕ) (key out : List ℕ) (answer : Answer) (sample : List ℕ) (message : ℕ → ℕ) : Type 0 where
+  pub within : (i : ℕ) → i < j .numbers .N → distance (phase (j .numbers .N) (masks (j .numbers)) (words key) (words sample) i) (message i) ≤ bound answer
   pub decrypts : let x = j .numbers in number (decryptClasses (x .N) (x .M) (x .s) key sample out) ≡ 0
   pub lists : let x = j .numbers in
       decryptClassesClasses (x .N) (x .M) (x .s) key sample out ≡ bytes (entryClasses x (named j bits) (words (j .classes)))
+
+-- The rule, in both packings: the message is that of the sample which has the named entry, rotated so that this entry is at the front.
+abbrev pub Accurate : (j : Job) (bits : ℕ → ℕ) (key out : List ℕ) (answer : Answer) (sample : List ℕ) → Type 0
+Accurate j bits key out answer sample = AccurateTo j bits key out answer sample (namedMessage (j .numbers) (named j bits) (words (j .classes)))
 
 -- ---- the same in each packing
 
--- In the horizontal packing: each coefficient is within the bound of the named entry's exact encoding.
-pub record AccurateHorizontal (j : Job) (bits : ℕ → ℕ) (key out : List ℕ) (answer : Answer) (sample : List ℕ) : Type 0 where
-  pub within : (i : ℕ) → i < j .numbers .N → let x = j .numbers in
-      distance (phase (x .N) (masks x) (words key) (words sample) i) (entryMessage x (named j bits) (words (j .classes)) i) ≤ bound answer
-  pub decrypts : let x = j .numbers in number (decryptClasses (x .N) (x .M) (x .s) key sample out) ≡ 0
-  pub lists : let x = j .numbers in
-      decryptClassesClasses (x .N) (x .M) (x .s) key sample out ≡ bytes (entryClasses x (named j bits) (words (j .classes)))
+-- In the horizontal packing the message is the named entry's exact encoding.
+abbrev pub AccurateHorizontal : (j : Job) (bits : ℕ → ℕ) (key out : List ℕ) (answer : Answer) (sample : List ℕ) → Type 0
+AccurateHorizontal j bits key out answer sample =
+    AccurateTo j bits key out answer sample (entryMessage (j .numbers) (named j bits) (words (j .classes)))
 
 -- In the vertical one, where an entry is one class, "for coefficient 0 alone, with decryption called with s = 1".
 pub record AccurateVertical (j : Job) (bits : ℕ → ℕ) (key out : List ℕ) (answer : Answer) (sample : List ℕ) : Type 0 where

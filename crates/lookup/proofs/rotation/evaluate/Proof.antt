@@ -48,7 +48,7 @@ tree-requires c κs =
       subst (λ d. Selectors x d (a .amplitudes .now)) (sym (whole R)) (s .pre .0),
       subst (λ l. Run x l 0 (length (a .sample .now)) (length (a .work .now)) (length (a .blocks .now)) (a .classes .now)) (sym (level R)) (s .pre .1),
       omega (arith, charged R, ap (Lookup.charges (parameters x) (words (a .amplitudes .now))) (whole R)),
-      omega (arith, s .pre .1 .entries, ap (λ l. 2 ^ l) (level R)),
+      omega (arith, s .pre .1 .leaves, ap (λ l. 2 ^ l) (level R)),
     )
 
 blind-rotation-requires : tie.Need-blind-rotation-requires
@@ -73,7 +73,7 @@ blind-rotation-requires c κs =
         ap (Lookup.charges p (words (a .amplitudes .now))) (whole R),
         ap (Lookup.charges p (words (a .amplitudes .now))) (R .rotations .ensures),
       ),
-      omega (arith, T .tree .ensures .2, s .pre .1 .entries, ap (λ l. 2 ^ l) (level R), R .rotations .ensures, rotations-le x, s .pre .0 .depth),
+      omega (arith, T .tree .ensures .2, s .pre .1 .leaves, ap (λ l. 2 ^ l) (level R), R .rotations .ensures, rotations-le x, s .pre .0 .depth),
     )
 
 clear-words-requires : tie.Need-clear-words-requires
