@@ -30,7 +30,7 @@ enum kind {
 };
 
 /* How the table of a call, if it takes one, fills samples: a sample for each entry, or for consecutive entries. */
-enum packing { NO_TABLE, WHOLE_ENTRIES, VERTICAL };
+enum packing { NO_TABLE, HORIZONTAL, VERTICAL };
 
 /* A slice as a call gets it. */
 struct lent {

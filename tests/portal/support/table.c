@@ -75,7 +75,7 @@ const struct call cmux = {
         name##_answer, name##_bound, name##_gates, packing,                                                        \
     }
 
-LOOKUP(lookup, WHOLE_ENTRIES);
+LOOKUP(lookup, HORIZONTAL);
 LOOKUP(lookup_vertical, VERTICAL);
 
 const struct call *const all_calls[] = {
@@ -87,7 +87,7 @@ const struct call *const all_lookups[] = {&lookup, &lookup_vertical, NULL};
 
 uint64_t most_selectors(const struct call *call)
 {
-    static const uint64_t most[] = {[NO_TABLE] = 0, [WHOLE_ENTRIES] = 10, [VERTICAL] = 16};
+    static const uint64_t most[] = {[NO_TABLE] = 0, [HORIZONTAL] = 10, [VERTICAL] = 16};
     return most[call->packing];
 }
 

@@ -8,7 +8,7 @@ use crate::trlwe::Sample;
 #[derive(Clone, Copy, Debug, PartialEq, Eq)]
 pub enum Packing {
     /// A sample for each entry.
-    WholeEntries,
+    Horizontal,
     /// A sample for as many consecutive entries, of one class each, as it has coefficients.
     Vertical,
 }
@@ -16,7 +16,7 @@ pub enum Packing {
 impl Packing {
     pub fn most_selectors(self) -> u64 {
         match self {
-            Packing::WholeEntries => 10,
+            Packing::Horizontal => 10,
             Packing::Vertical => 16,
         }
     }
@@ -24,7 +24,7 @@ impl Packing {
     /// The most classes of an entry.
     pub fn most_carried(self, degree: u64) -> u64 {
         match self {
-            Packing::WholeEntries => degree,
+            Packing::Horizontal => degree,
             Packing::Vertical => 1,
         }
     }
@@ -32,7 +32,7 @@ impl Packing {
     /// How many selectors rotate; the degree is a power of two.
     pub fn rotating(self, degree: u64, selectors: u64) -> u64 {
         match self {
-            Packing::WholeEntries => 0,
+            Packing::Horizontal => 0,
             Packing::Vertical => selectors.min(degree.ilog2().into()),
         }
     }
@@ -107,6 +107,6 @@ mod tests {
             assert_eq!(Packing::Vertical.rotating(degree, selectors), rotating);
             assert_eq!(Packing::Vertical.gates(degree, selectors), gates);
         }
-        assert_eq!(Packing::WholeEntries.gates(1024, 10), 1023);
+        assert_eq!(Packing::Horizontal.gates(1024, 10), 1023);
     }
 }

@@ -113,7 +113,7 @@ impl Call {
     /// The packing of its table, if it takes one.
     pub fn packing(self) -> Option<Packing> {
         match self {
-            Call::Lookup => Some(Packing::WholeEntries),
+            Call::Lookup => Some(Packing::Horizontal),
             Call::LookupVertical => Some(Packing::Vertical),
             _ => None,
         }
