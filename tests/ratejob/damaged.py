@@ -75,7 +75,7 @@ def depths():
             yield Case(f"s = {s}, d = {d} beside N = 2", pack(words if d < 13 else words[:7]))
 
 
-# Job J with two selectors: whole entries are picked. Eleven selectors, with one class an entry: the lowest one rotates.
+# Job J with two selectors: packed horizontally. Eleven selectors, with one class an entry: the lowest one rotates.
 TWO_SELECTORS = JOB_J[:6] + [2] + JOB_J[7:16] + JOB_J[7:16] + [4, 3, 8, 15, 0]
 ELEVEN_SELECTORS = [5, 2, 16, 2, 16, 1, 11] + ([7] + [65_536, 0, 0, 1] * 4) * 11 + [2048] + [3, 8] * 1024
 
@@ -123,7 +123,7 @@ def random_jobs():
         words = random_job(rng, n, g, digit_count, 2 ** rng.randrange(1, 6), rng.randrange(1, n + 1), amplitudes)
         yield Case(f"random job {number}", pack(words))
     yield Case("the greatest N", pack(random_job(rng, 1024, 16, 1, 8, 1024, [1])))
-    yield Case("the most selectors over whole entries", pack(random_job(rng, 8, 8, 3, 16, 8, [1] * 10)))
+    yield Case("the most selectors in the horizontal packing", pack(random_job(rng, 8, 8, 3, 16, 8, [1] * 10)))
     yield Case("the greatest bound of a file", pack(random_job(rng, 512, 16, 1, 2, 1, [2**31] * 7)))
     yield Case("an accepted bound of 2^31/M - 1", pack(random_job(rng, 2, 1, 31, 16, 2, [1_082_401])))
 

@@ -1,4 +1,4 @@
--- X^(-r) times a sample: its length, its words and its phase, for k masks.
+-- X^(-r) times a sample: its phase, for k masks.
 -- Assumes nothing.
 use mathlib.Core.Path.{_≡_, refl, ap, ap₂, sym, _∙_}
 use mathlib.Core.List.{List}
@@ -7,27 +7,16 @@ use native.Mathlib.Nat.{le-of-lt, mod-lt, mod-mod, mul-add, mul-comm}
 use native.Mathlib.Decide.{decLt}
 use native.Mathlib.Omega.{arith}
 use lib.Dec.{lit<}
-use lib.ListN.{length, getD}
+use lib.ListN.{getD}
 use Rattle.torus.specs.Sum.{sum}
 use Rattle.torus.specs.Word.{sub}
 use Rattle.torus.proofs.Sums.{sum-cong, sum-mul}
 use Rattle.torus.proofs.Near.{Near, near-refl, near-path, near-sym, near-mod, near-eq, near-congruent, congruent-trans, congruent-add, congruent-scale, congruent-sum, sub-near}
 use Rattle.ring.specs.Polynomial.{Agree, product, rotated}
 use Rattle.ring.proofs.Terms.{product-agree}
-use Rattle.ring.proofs.Rotation.{rotated-low, rotated-high, rotated-word, minus-near, product-rotated, product-word}
+use Rattle.ring.proofs.Rotation.{rotated-low, rotated-high, minus-near, product-rotated, product-word}
 use Rattle.trlwe.specs.Sample.{part, masked, phase, rotatedSample}
-use Rattle.trlwe.proofs.Polynomials.{length-polynomials, part-polynomials, polynomials-below}
-
-pub length-rotated : (N k r : ℕ) (x : List ℕ) → length (rotatedSample N k r x) ≡ suc k * N
-unfolding rotatedSample
-length-rotated N k r x = length-polynomials N (suc k) _
-
--- It is of words if the sample is.
-pub rotated-below : (N k r : ℕ) (x : List ℕ) → ((t : ℕ) → getD x t 0 < 2 ^ 32) → (t : ℕ) → getD (rotatedSample N k r x) t 0 < 2 ^ 32
-unfolding rotatedSample
-rotated-below N k r x word = polynomials-below (2 ^ 32) N (suc k) _ (lit< tt) (λ c. rotated-word N r (λ j lj. word (c * N + j)))
-
--- ---- the phase
+use Rattle.trlwe.proofs.Polynomials.{part-polynomials}
 
 -- Differences that are congruent are equal.
 subs-eq : (a b c d : ℕ) → Near (2 ^ 32) 0 (sub a b) (sub c d) → sub a b ≡ sub c d

@@ -63,7 +63,7 @@ static void picks_and_rotates(void)
         picks(n, classes, h, bodies[h], 5);
 }
 
-/* A lessor's 4,096 rate cells at N = 1,024 are four samples: three gates and ten, where whole entries take 4,095. */
+/* A lessor's 4,096 rate cells at N = 1,024 are four samples: three gates and ten, where the horizontal packing takes 4,095. */
 static void picks_a_cell(uint32_t h)
 {
     static uint32_t classes[CELLS], body[MAX_N];
@@ -75,7 +75,7 @@ static void picks_a_cell(uint32_t h)
     picks((struct numbers){.N = MAX_N, .g = 16, .L = 2, .M = M, .s = 1, .d = 12}, classes, h, body, 13);
 }
 
-/* N = 2, g = 1, L = 31, as for whole entries: an amplitude is charged 124 times, and each selector 3. */
+/* N = 2, g = 1, L = 31, as in the horizontal packing: an amplitude is charged 124 times, and each selector 3. */
 static void bounds_at_the_limit(void)
 {
     static const uint32_t blocks[5 * 248], classes[32], words[2 * 2 * 7];

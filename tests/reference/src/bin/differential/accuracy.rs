@@ -41,6 +41,8 @@ pub struct Measured {
     pub bound: i64,
     /// The part of the bound that the input samples bring.
     pub brought: i64,
+    /// Whether its noise counts towards what a run has to meet.
+    pub counts: bool,
 }
 
 impl Measured {
@@ -51,7 +53,7 @@ impl Measured {
         if distance > bound {
             return Err(format!("distance {distance} above the bound {bound}, {parameters:?}"));
         }
-        Ok(Measured { parameters, distance, bound, brought: 0 })
+        Ok(Measured { parameters, distance, bound, brought: 0, counts: true })
     }
 
     /// The added noise as a part of the charges.
@@ -72,7 +74,7 @@ impl Record {
     fn add(&mut self, measured: Measured) {
         self.jobs += 1;
         self.degrees.insert(measured.parameters.degree);
-        if measured.share() > self.share() {
+        if measured.counts && measured.share() > self.share() {
             self.nearest = Some(measured);
         }
     }
@@ -137,7 +139,7 @@ fn report(name: &str, least: f64, record: &Record) -> bool {
 }
 
 fn print_measured(measured: &Measured) {
-    let Measured { distance, bound, brought, parameters } = measured;
+    let Measured { distance, bound, brought, parameters, .. } = measured;
     println!("  added noise is {:.6} of the charges", measured.share());
     println!("  distance {distance}, bound {bound}, of which {brought} came with the samples");
     println!("  {parameters:?}");

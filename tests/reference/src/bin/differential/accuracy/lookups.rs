@@ -130,5 +130,7 @@ pub fn run(call: Call, effort: Effort, random: &mut Random) -> Result<Measured, 
     if found != named {
         return Err(format!("classes {found:?} instead of {named:?}, {:?}", job.parameters));
     }
-    Measured::new(job.parameters, &sample.phase(&job.key), &exact, bound)
+    let measured = Measured::new(job.parameters, &sample.phase(&job.key), &exact, bound)?;
+    // A vertical lookup in which nothing rotates tells no more than one of the other packing.
+    Ok(Measured { counts: call == Call::Lookup || job.rotating > 0, ..measured })
 }

@@ -26,7 +26,7 @@ fn firsts() -> impl Iterator<Item = usize> {
 
 /// With two classes an amplitude of 1 is accepted, with the most classes none but 0. In the difference of two
 /// entries as many words are not 0 as an entry carries.
-fn whole_entries() -> Vec<Case> {
+fn horizontal() -> Vec<Case> {
     let call = Call::Lookup;
     let mut cases = Vec::new();
     for (class_count, amplitude) in [(2, 1), (65536, 0)] {
@@ -57,7 +57,7 @@ fn vertical() -> Vec<Case> {
 }
 
 pub fn cases() -> Vec<Case> {
-    [whole_entries(), vertical()].into_iter().flatten().collect()
+    [horizontal(), vertical()].into_iter().flatten().collect()
 }
 
 impl Case {
