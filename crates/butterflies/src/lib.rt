@@ -16,7 +16,7 @@ pub fn shoup(y: u32, w: u32, v: u32, p: u32) -> u32
 }
 
 // x modulo p, from below 4·p to below 2·p.
-fn fold(x: u32, p: u32) -> u32
+pub fn fold(x: u32, p: u32) -> u32
     requires { (p < 1073741824) × (x < 4 * p) }
     ensures { (result < p + p) × Same p result x }
 {

@@ -61,7 +61,7 @@ pub fn precision(g: u32, l: u32) -> u32
 }
 
 // What is added to a word before its digits are cut out of it: E, to round, and half of the base at each place.
-fn offset(g: u32, l: u32) -> u32
+pub fn offset(g: u32, l: u32) -> u32
     requires { D.Lawful g l }
     ensures { result ≡ D.offset g l }
 {
@@ -86,7 +86,7 @@ fn low(q: u32, g: u32) -> u32
 }
 
 // Digit j of the word from which t was made by adding the offset.
-fn cut(t: u32, g: u32, j: u32) -> u32
+pub fn cut(t: u32, g: u32, j: u32) -> u32
     requires { (1 ≤ g) × (g ≤ 16) × (1 ≤ j) × (g * j ≤ 32) }
     ensures { result ≡ D.signed g t j }
 {

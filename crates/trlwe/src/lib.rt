@@ -18,7 +18,7 @@ use answers::Answer;
 // ---- classes
 
 // The word of class c.
-fn encode(m: u64, c: u32) -> u32
+pub fn encode(m: u64, c: u32) -> u32
     requires { ClassNumber m × (c < m) }
     ensures { result ≡ Classes.encode m c }
 {
