@@ -24,9 +24,6 @@ struct round {
     uint32_t samples[2 * MAX_TABLE], sample_amplitudes[MAX_SAMPLES]; /* of a hidden table */
 };
 
-/* Whether an N and d have one round each, as the last argument of the program wants it. */
-static int few_rounds;
-
 /* Jobs of one lookup that were accepted, by their N and d. */
 static unsigned accepted[MAX_N + 1][MAX_D + 1];
 
@@ -254,14 +251,11 @@ static int is_long(const struct call *call, uint64_t N, uint64_t d)
     return products(call, N, d) > most_products(call);
 }
 
-/*
- * Every way of choosing amplitudes has its turn with an N and d. With few rounds, or with very many samples to encrypt,
- * only one has.
- */
+/* Every way of choosing amplitudes has its turn with an N and d. With very many samples to encrypt, only one has. */
 static unsigned rounds_of(const struct call *call, uint64_t N, uint64_t d)
 {
     enum { MANY = 1024 };
-    if (few_rounds || is_long(call, N, d) || (is_hidden(call) && samples_of(call, N, d) > MANY))
+    if (is_long(call, N, d) || (is_hidden(call) && samples_of(call, N, d) > MANY))
         return 1;
     return N <= 64 && d <= 10 && !is_hidden(call) ? 3 * CHOICES : CHOICES;
 }
@@ -320,7 +314,7 @@ static void test_pair(const struct call *call, uint64_t N, uint64_t d)
 static struct numbers noisy_numbers(const struct call *call, uint64_t N, uint64_t d)
 {
     struct numbers n = any_numbers(call, N, d);
-    while (most_amplitudes(n) < 2 * d)
+    while (most_amplitudes(n) < (is_hidden(call) ? 2 : 1) * d)
         n = any_numbers(call, N, d);
     return n;
 }
@@ -360,7 +354,6 @@ int main(int argc, char **argv)
 {
     uint64_t seed = argc > 1 ? strtoull(argv[1], NULL, 0) : UINT64_C(20240302);
     start("lookups");
-    few_rounds = argc > 2 && strcmp(argv[2], "few") == 0;
     printf("lookups: seed %" PRIu64 "\n", seed);
     seed_random(seed);
     for (size_t c = 0; all_lookups[c]; c++) {

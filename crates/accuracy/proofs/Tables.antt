@@ -4,8 +4,8 @@
 use mathlib.Core.Path.{◌≡◌, ap, ap₂, sym, ◌∙◌}
 use mathlib.Core.Logic.{◌⊎◌, inl, inr}
 use mathlib.Core.List.{List, [], ◌∷◌}
-use Prim.Native.Nat.{ℕ, ◌+◌, ◌*◌, ◌/◌, ◌%◌, ◌^◌, ◌≤◌, ◌<◌}
-use native.Mathlib.Nat.{mod-lt, div-add-mod'}
+use Prim.Native.Nat.{ℕ, ◌+◌, ◌-◌, ◌*◌, ◌/◌, ◌%◌, ◌^◌, ◌≤◌, ◌<◌}
+use native.Mathlib.Nat.{le_of_eq, zero-add, mod-lt, div-add-mod'}
 use native.Mathlib.Omega.{arith}
 use lib.Dec.{lit<}
 use lib.ListN.{length, get_or}
@@ -17,7 +17,7 @@ use Rattle.torus.proofs.Joined.{chunk_at, chunk_inside, chunk_below, length_chun
 use Rattle.torus.proofs.Near.{near_path, near_congruent}
 use Rattle.torus.proofs.Parts.{bytes_words}
 use Rattle.ring.specs.Polynomial.{Agree, rotated}
-use Rattle.ring.proofs.Close.{Close}
+use Rattle.ring.proofs.Close.{Close, close_weaken}
 use Rattle.ring.proofs.Rotation.{rotated_low, rotated_none, rotated_word}
 use Rattle.trlwe.specs.Classes.{encode, message}
 use Rattle.trlwe.specs.Sample.{phase, trivial, decrypted}
@@ -28,12 +28,13 @@ use Rattle.trgsw.specs.declared.Parameters.{Parameters}
 use Rattle.trees.specs.Tree.{entry_number}
 use Rattle.tables.specs.declared.Numbers.{Numbers}
 use Rattle.tables.specs.Numbers.{LawfulNumbers, rotations, sample_classes, table_size, table_samples}
-use Rattle.trees.specs.LookedUp.{Entry, looked_up, looked_up_bound}
+use Rattle.trees.specs.LookedUp.{Entry, looked_up, looked_up_bound, charges}
 use Rattle.tables.specs.Table.{entry_classes, entry_message, table_message, named_message}
 use Rattle.trees.proofs.Trees.{entry_number_lt}
 use Rattle.tables.proofs.Passed.{class_below}
 use Rattle.tables.proofs.Packings.{rotations_le, rotations_power, classes_le, single, sample_classes_le}
 use Rattle.trees.proofs.Noise.{Selects}
+use Rattle.trees.proofs.Largest.{largest_none}
 use Rattle.trees.proofs.LookedUp.{entry_number_inside, looked_up_within}
 
 -- A part of one element.
@@ -111,6 +112,26 @@ module _ (x : Numbers) (classes : List ℕ) (ok : LawfulNumbers x) (below : (i :
           decrypted_near x.scheme.N k x.M x.s (looked_up_bound set amplitudes (rotations x) entry x.d) K _ (entry_classes x h classes) ok.class_number
           (length_chunk x.s h classes inside) (λ i l. class_below x classes ok below x.s h i) quiet
           (λ i l. let low : i < x.scheme.N = omega (arith, classes_le x ok) in near_congruent (table_near i low) (near_path (named_used h i l)))
+
+    -- ---- of a public table, whose entries are the trivial samples of its classes
+
+    abbrev public_entry : (t : ℕ) → Entry
+    public_entry t = record { sample = trivial x.scheme.N k (table_message x t classes); amplitude = 0 }
+
+    module _ (bits : ℕ → ℕ) (K blocks amplitudes : List ℕ) (given : Selects set x.d bits K blocks amplitudes) where
+      -- No amplitude is declared of them, so the bound is the sum of the d charges.
+      public_bound : looked_up_bound set amplitudes (rotations x) public_entry x.d ≡ charges set amplitudes x.d
+      public_bound = ap (λ n. n + charges set amplitudes x.d) (largest_none (2 ^ (x.d - rotations x))) ∙ zero-add _
+
+      -- The phase is within the charges of what the bits name.
+      pub public_near : Close (2 ^ 32) x.scheme.N (charges set amplitudes x.d)
+          (phase x.scheme.N k K (looked_up set blocks (rotations x) public_entry x.d)) (named_message x (entry_number bits x.d) classes)
+      public_near = close_weaken (le_of_eq public_bound) (table_near bits K blocks amplitudes given public_entry (public_holds k K))
+
+      -- Where the charges are below half of a band, the sample holds the classes of that entry.
+      pub public_classes : length classes ≡ table_size x → charges set amplitudes x.d < 2 ^ 31 / x.M
+          → decrypted x.scheme.N k x.M x.s K (looked_up set blocks (rotations x) public_entry x.d) ≡ entry_classes x (entry_number bits x.d) classes
+      public_classes size quiet = table_classes bits K blocks amplitudes given public_entry (public_holds k K) size (rw public_bound quiet)
 
 -- Where nothing rotates, what the bits name is the entry's encoding, all N coefficients.
 pub named_whole : (x : Numbers) (classes : List ℕ) (h : ℕ) → rotations x ≡ 0 → Agree x.scheme.N (named_message x h classes) (entry_message x h classes)

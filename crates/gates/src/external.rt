@@ -13,7 +13,7 @@ use answers::{Answer, Ledger};
 use trgsw::{Parameters, Scheme};
 
 // To out, the external product of the block with x.
-pub(crate) fn add_external(out: &mut [u8], block: &[u8], x: &[u8], p: Parameters)
+pub fn add_external(out: &mut [u8], block: &[u8], x: &[u8], p: Parameters)
     requires { Inner.Fits p (length block.now) (length x.now) (length out.old) }
     ensures { words out.new ≡ polynomials p.N (suc p.k) (λ c i. W.add (part p.N (words out.old) c i)
         (External.external p (words block.now) (words x.now) c i)) }

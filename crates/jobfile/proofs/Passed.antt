@@ -42,6 +42,10 @@ beginning_met file ok =
 pub begins_some : (file : List ℕ) → Begins file → 4 ≤ length file
 begins_some file ok = omega (arith, ok.least)
 
+-- And a header behind a count of five numbers, the least that there is.
+pub begins_words : (file : List ℕ) → Begins file → 28 ≤ length file
+begins_words file ok = let five = eqb-true (first_count (words file)) 5 ok.counted in omega (arith, ok.least, five)
+
 -- ---- the sections
 
 -- Two checks of one number.

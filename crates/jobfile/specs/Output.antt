@@ -1,8 +1,9 @@
 -- What the program prints for a file.
 -- Assumes nothing.
-use Rattle.std.specs.Prelude.{◌≡◌, List, ℕ, ◌≤◌, length, take, drop}
+use Rattle.std.specs.Prelude.{◌≡◌, Bool, cond, List, [], ◌++◌, ℕ, ◌≤◌, ◌<◌, length, take, drop}
 use Rattle.torus.specs.Bytes.{words}
 use Rattle.report.specs.Report.{report}
+use Rattle.jobfile.specs.Layout.{largest_file}
 use Rattle.jobfile.specs.Reader.{read_job, job_answer, job_sample}
 
 -- The answer, and the sample where there is one: its first N words are its mask.
@@ -17,3 +18,7 @@ pub record Shows (room : List ℕ) (size : ℕ) (text : List ℕ) : Type 0 where
   pub length_text : size ≡ length text
   pub front : take size room ≡ text
   pub within : size ≤ length room
+
+-- The rest of an input behind its first bytes: nothing, or so much that the whole is "over 65,536 bytes".
+abbrev pub Continues : (more : Bool) (file rest : List ℕ) → Type 0
+Continues more file rest = cond more (largest_file < length (file ++ rest)) (rest ≡ [])

@@ -9,11 +9,13 @@ ghost use Rattle.jobfile.specs.Reader as Reader;
 use crate::layout;
 use tables::{Numbers, Packing, Visibility};
 
-// Word i of the file.
+// Word i of the file, and 0 behind its end.
 fn number_at(file: &[u8], i: usize) -> u64
-    requires { 4 * i + 4 ≤ length file.now }
     ensures { result ≡ get_or (words file.now) i 0 }
 {
+    if file.len() / 4 <= i {
+        return 0;
+    }
     torus::word_at(file, i) as u64
 }
 
@@ -70,7 +72,7 @@ fn file_packing(s: u64, d: u64) -> Packing
 
 // The numbers of section one and d behind them, and the packing that they give.
 pub fn read_numbers(file: &[u8]) -> Numbers
-    requires { Reader.Begins file.now }
+    requires { 28 ≤ length file.now }
     ensures { result ≡ (Reader.read_job file.now).numbers }
 {
     let n = header_number(file, 0);

@@ -1,11 +1,11 @@
 // Job files: the reader. It takes every byte string.
 #![tactic(auto)]
 
-mod checks;
+pub mod checks;
 mod layout;
-mod parts;
+pub mod parts;
 pub mod streams;
-mod text;
+pub mod text;
 
 ghost use Rattle.std.specs.Prelude.{◌≡◌, ◌*◌, length};
 ghost use Rattle.trgsw.specs.Parameters.{parameters, block_size};

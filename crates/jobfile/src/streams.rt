@@ -45,10 +45,10 @@ fn answer<I: Source>(source: &mut I, room: &mut [u8], file: &mut [u8]) -> usize
     let n = source.fill(file);
     if n == file.len() {
         if goes_on(source) {
-            return text::output_of_longer(room);
+            return text::write_output_of_longer(room);
         }
     }
-    text::output(room, &file[..n])
+    text::write_output(room, &file[..n])
 }
 
 // The whole program, with a buffer for the largest file: one write, of the output for all that the source has left.

@@ -1,5 +1,5 @@
-// The text that the program prints for a file. It is made at the front of a lent room; each function gives how many bytes it has.
-ghost use Rattle.std.specs.Prelude.{◌≡◌, List, ℕ, ◌/◌, ◌*◌, ◌<◌, ◌≤◌, length, take, drop};
+// The text that the program prints for a file. It is made at the front of a room, and has as many bytes as is told with it.
+ghost use Rattle.std.specs.Prelude.{◌≡◌, List, ◌++◌, ℕ, ◌/◌, ◌*◌, ◌<◌, ◌≤◌, length, take, drop};
 ghost use Rattle.torus.specs.Bytes.{words};
 ghost use Rattle.report.specs.Report.{report};
 ghost use Rattle.jobfile.specs.Layout.{largest_file};
@@ -7,6 +7,13 @@ ghost use Rattle.jobfile.specs.Output as Output;
 
 use crate::layout::{SAMPLE_ROOM, TEXT_ROOM};
 use answers::Answer;
+
+// A text at the front of a room for the longest, and how many bytes it has.
+#[derive(Clone, Copy)]
+pub struct Text {
+    pub size: usize,
+    pub bytes: [u8; TEXT_ROOM],
+}
 
 // Room for the longest text. A function of its own, so that a proof sees its length and not its bytes.
 pub fn text_room() -> [u8; TEXT_ROOM]
@@ -26,7 +33,7 @@ fn show(room: &mut [u8], answer: Answer, sample: &[u8]) -> usize
 }
 
 // The output for a file.
-pub fn output(room: &mut [u8], file: &[u8]) -> usize
+pub fn write_output(room: &mut [u8], file: &[u8]) -> usize
     requires { TEXT_ROOM ≡ length room.old }
     ensures { Output.Shows room.new result (Output.output file.now) }
 {
@@ -38,9 +45,24 @@ pub fn output(room: &mut [u8], file: &[u8]) -> usize
 }
 
 // The output for each file that is too large, which need not be read to its end.
-pub fn output_of_longer(room: &mut [u8]) -> usize
+pub fn write_output_of_longer(room: &mut [u8]) -> usize
     requires { TEXT_ROOM ≡ length room.old }
     ensures { (file : List ℕ) → largest_file < length file → Output.Shows room.new result (Output.output file) }
 {
     show(room, Answer::Refused(5), &[])
+}
+
+// The output for an input that begins with the bytes of `file`, for a caller that lends no room. Where `more` is true, the input goes on
+// behind them and is too large.
+pub fn output(file: &[u8], more: bool) -> Text
+    ensures { (result.size ≤ length result.bytes) × ((rest : List ℕ) → Output.Continues more file.now rest
+        → Output.Shows result.bytes result.size (Output.output (file.now ++ rest))) }
+{
+    let mut bytes = text_room();
+    if more {
+        let size = write_output_of_longer(&mut bytes);
+        return Text { size, bytes };
+    }
+    let size = write_output(&mut bytes, file);
+    Text { size, bytes }
 }

@@ -9,7 +9,7 @@ ghost use Rattle.lookup.specs.Inner as Inner;
 use tables::Numbers;
 
 // 5: the lengths of the slices.
-pub(crate) fn check_lengths(
+pub fn check_lengths(
     x: Numbers,
     blocks: &[u8],
     amplitudes: &[u8],
@@ -47,7 +47,7 @@ pub(crate) fn check_lengths(
 }
 
 // 6 and 7: the amplitudes of selectors and entries, and the classes.
-pub(crate) fn check_contents(x: Numbers, amplitudes: &[u8], table: &[u8], declared: &[u8]) -> u32
+pub fn check_contents(x: Numbers, amplitudes: &[u8], table: &[u8], declared: &[u8]) -> u32
     ensures { result ≡ Check.first (Check.amplitudes (words amplitudes.now))
         (Check.first (Check.amplitudes (words declared.now)) (classes_of x.visibility x.M (words table.now))) }
 {

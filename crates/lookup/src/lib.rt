@@ -2,9 +2,9 @@
 // Samples have k masks.
 #![tactic(auto)]
 
-mod checks;
-mod rotation;
-mod tree;
+pub mod checks;
+pub mod rotation;
+pub mod tree;
 
 ghost use Rattle.std.specs.Prelude.{◌≡◌};
 ghost use Rattle.lookup.specs.Job.{Job};

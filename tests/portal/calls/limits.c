@@ -8,12 +8,12 @@
 #include <inttypes.h>
 
 /*
- * Jobs with more gates than this, or with more words in the rows of all gates, would take too long, tried with so many
- * gadgets. Hidden tables are charged alike, and have hidden_limits.c besides.
+ * Jobs with more gates than this would take too long, tried with so many gadgets, and so would jobs in hidden tables
+ * with more words in the rows of all gates. Hidden tables are charged alike, and have hidden_limits.c besides.
  */
 static int is_short(const struct call *call, struct numbers n)
 {
-    const uint64_t most_gates = is_hidden(call) ? 63 : 2047, most_words = 1 << 15;
+    const uint64_t most_gates = is_hidden(call) ? 63 : 2047, most_words = is_hidden(call) ? 1 << 15 : UINT64_MAX;
     if (n.d > most_selectors(call))
         return 0;
     uint64_t gates = gates_of(call, n.N, n.d);

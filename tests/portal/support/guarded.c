@@ -99,13 +99,20 @@ static void lend(struct guarded *g, const struct bytes *b, size_t k)
     memcpy(g->start + g->length, guards[k][RIGHT], GUARD);
 }
 
-/* Under AddressSanitizer a memcpy or memset that touches a guard during a call is a fault, also where it only reads. */
+/* What is sealed behind a slice: the guard, and a page of what is left of a room that was made for a longer one. */
+static size_t behind(const struct guarded *g, size_t k)
+{
+    size_t rest = rooms[k].size - g->left - g->length;
+    return rest < GUARD + 4096 ? rest : GUARD + 4096;
+}
+
+/* Under AddressSanitizer a memcpy or memset that touches what is sealed during a call is a fault, also where it only reads. */
 static void seal(const struct guarded *g, size_t slices)
 {
     for (size_t k = 0; k < slices; k++)
         if (g[k].length) {
             ASAN_POISON_MEMORY_REGION(g[k].start - g[k].left, g[k].left);
-            ASAN_POISON_MEMORY_REGION(g[k].start + g[k].length, GUARD);
+            ASAN_POISON_MEMORY_REGION(g[k].start + g[k].length, behind(&g[k], k));
         }
 }
 
@@ -114,7 +121,7 @@ static void unseal(const struct guarded *g, size_t slices)
     for (size_t k = 0; k < slices; k++)
         if (g[k].length) {
             ASAN_UNPOISON_MEMORY_REGION(g[k].start - g[k].left, g[k].left);
-            ASAN_UNPOISON_MEMORY_REGION(g[k].start + g[k].length, GUARD);
+            ASAN_UNPOISON_MEMORY_REGION(g[k].start + g[k].length, behind(&g[k], k));
         }
 }
 

@@ -4,7 +4,7 @@ use Rattle.answers.specs.Answers.{number}
 use Rattle.answers.specs.declared.Answer.TheVariants.{Refused}
 use Rattle.answers.proofs.Laws.{stopped, after_refused}
 use Rattle.jobfile.specs.Reader.{file_refusal, job_answer, job_sample}
-use Rattle.jobfile.proofs.Passed.{refusal_held}
+use Rattle.jobfile.proofs.Passed.{begins_words, refusal_held}
 use Rattle.jobfile.proofs.run.Goals as goal
 
 pub returns-then-refused-ne0 : goal.returns-then-refused-ne0
@@ -18,4 +18,4 @@ returns-then-refused-ne0 c =
 
 pub read_numbers-requires : goal.read_numbers-requires
 read_numbers-requires c =
-    (refusal_held c.args.file.now (sym c.refusal-refused.ensures ∙ c.if-refused-ne0.false)).begins
+    begins_words c.args.file.now (refusal_held c.args.file.now (sym c.refusal-refused.ensures ∙ c.if-refused-ne0.false)).begins

@@ -4,7 +4,7 @@ use Rattle.answers.proofs.Laws.{first_stopped, first_passed}
 use Rattle.tables.specs.Numbers.{numbers}
 use Rattle.tables.proofs.Passed.{numbers_held}
 use Rattle.jobfile.specs.Reader.{Begins, beginning, sections, file_refusal}
-use Rattle.jobfile.proofs.Passed.{beginning_held}
+use Rattle.jobfile.proofs.Passed.{beginning_held, begins_words}
 use Rattle.jobfile.proofs.checks.refusal.Goals as goal
 
 pub returns-then-begun-ne0 : goal.returns-then-begun-ne0
@@ -22,7 +22,7 @@ begun : (file : List ℕ) (n : ℕ) → n ≡ beginning file → n ≡ 0 → Beg
 begun file n e none = beginning_held file (sym e ∙ none)
 
 pub read_numbers-x-requires : goal.read_numbers-x-requires
-read_numbers-x-requires c = begun c.args.file.now _ c.beginning-begun.ensures c.if-begun-ne0.false
+read_numbers-x-requires c = begins_words c.args.file.now (begun c.args.file.now _ c.beginning-begun.ensures c.if-begun-ne0.false)
 
 pub check_sections-requires : goal.check_sections-requires
 check_sections-requires c =

@@ -1,9 +1,9 @@
--- `jobfile::text::output` meets its contract. Assumes nothing.
+-- `jobfile::text::write_output` meets its contract. Assumes nothing.
 use Rattle.std.proofs.Common.{◌≡◌, ◌-◌, ◌*◌, ◌/◌, ◌≤◌, ℕ, List, length, take, drop, ap, ◌∙◌, arith}
 use Rattle.jobfile.specs.declared.layout.TheConstants.{SAMPLE_ROOM}
 use Rattle.jobfile.specs.Reader.{job_sample}
 use Rattle.jobfile.proofs.Texts.{sample_size, shows_whole}
-use Rattle.jobfile.proofs.text.output.Goals as goal
+use Rattle.jobfile.proofs.text.write_output.Goals as goal
 
 -- What is lent of the room is the sample,
 told : (n : ℕ) (room sample : List ℕ) → take n room ≡ sample → take (n - 0) (drop 0 room) ≡ sample
