@@ -103,7 +103,7 @@ module _ (j : Job) (accepted : IsAccepted j) (bits : ℕ → ℕ) (key classes o
     holds = given.holds;
   }
 
-  lookup_words : words (lookup_sample j) ≡ result_sample j
+  pub lookup_words : words (lookup_sample j) ≡ result_sample j
   lookup_words =
       ap words (lookup_bytes j accepted)
       ∙ words_bytes _ (looked_up_below (parameters j.numbers.scheme) (words j.blocks) (rotations j.numbers) (entry j) j.numbers.d held.word)

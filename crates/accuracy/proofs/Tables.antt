@@ -118,6 +118,9 @@ module _ (x : Numbers) (classes : List ℕ) (ok : LawfulNumbers x) (below : (i :
     abbrev public_entry : (t : ℕ) → Entry
     public_entry t = record { sample = trivial x.scheme.N k (table_message x t classes); amplitude = 0 }
 
+    pub entry_below : (t u : ℕ) → get_or (public_entry t).sample u 0 < 2 ^ 32
+    entry_below t = trivial_below x.scheme.N k (table_message x t classes) (message_words t)
+
     module _ (bits : ℕ → ℕ) (K blocks amplitudes : List ℕ) (given : Selects set x.d bits K blocks amplitudes) where
       -- No amplitude is declared of them, so the bound is the sum of the d charges.
       public_bound : looked_up_bound set amplitudes (rotations x) public_entry x.d ≡ charges set amplitudes x.d

@@ -25,6 +25,10 @@ test_lawful g L e =
 pub lawful_test : (g L : ℕ) → Lawful g L → is_lawful g L ≡ true
 lawful_test g L ok = simp (le-leb 1 g ok.low, le-leb g 16 ok.high, le-leb 1 L ok.some, le-leb (g * L) 32 ok.room)
 
+-- Past the other limits the room decides.
+pub room_only : (g L : ℕ) → 1 ≤ g → g ≤ 16 → 1 ≤ L → leb (g * L) 32 ≡ is_lawful g L
+room_only g L l h s = simp (le-leb 1 g l, le-leb g 16 h, le-leb 1 L s)
+
 -- What is not lawful fails the test.
 pub refused : (g L : ℕ) → (Lawful g L → ⊥) → false ≡ is_lawful g L
 refused g L never = refuted (is_lawful g L) (test_lawful g L) never

@@ -2,7 +2,7 @@
 -- Assumes nothing.
 use mathlib.Core.Path.{◌≡◌, sym, ap, ◌∙◌}
 use Prim.Native.Nat.{ℕ, suc, ◌+◌, ◌-◌, ◌*◌, ◌/◌, ◌%◌, ◌^◌, ◌≤◌, ◌<◌}
-use native.Mathlib.Nat.{mul-suc, mul-le-mul_left}
+use native.Mathlib.Nat.{mul-suc, mul-le-mul_left, one-mul}
 use native.Mathlib.Numerals.{add-one}
 use native.Mathlib.Omega.{arith}
 use lib.Arith.{digits_lt}
@@ -18,6 +18,10 @@ use Rattle.gadget.proofs.Places.{room_at, horner, by_horner, horner_lt}
 
 half_lt : (g : ℕ) → 1 ≤ g → half g < 2 ^ g
 half_lt g h = pow-lt {i = g - 1} {j = g} (omega arith)
+
+-- 1 << k
+pub one_shl : (k : ℕ) → k < 32 → (1 * 2 ^ k) % 2 ^ 32 ≡ 2 ^ k
+one_shl k h = shl_exact {a = 1} 1 k 32 (omega arith) (omega arith) ∙ one-mul (2 ^ k)
 
 -- half << (32 - g * j)
 half_shl : (g j : ℕ) → 1 ≤ g → 1 ≤ j → g * j ≤ 32 → (half g * step g j) % 2 ^ 32 ≡ half g * step g j

@@ -3,7 +3,7 @@
 use mathlib.Core.Path.{◌≡◌, refl, sym}
 use mathlib.Core.Bool.{Bool, true, false, cond}
 use mathlib.Core.List.{List}
-use Prim.Native.Nat.{ℕ, ◌*◌, ◌%◌, ◌≤◌}
+use Prim.Native.Nat.{ℕ, ◌+◌, ◌*◌, ◌%◌, ◌≤◌}
 use lib.Dec.{eqb, leb}
 use native.Mathlib.Omega.{arith}
 use lib.ListN.{length, get_or}
@@ -16,8 +16,18 @@ use Rattle.tables.specs.declared.Numbers.{Numbers}
 use Rattle.trgsw.specs.Parameters.{parameters, block_size}
 use Rattle.tables.specs.Numbers.{LawfulNumbers, table_size}
 use Rattle.tables.proofs.Passed.{numbers_held, numbers_met}
-use Rattle.jobfile.specs.Layout.{largest_file, first_count, header_words}
+use Rattle.jobfile.specs.Layout.{largest_file, is_first_count, first_count, depth_at, header_words}
 use Rattle.jobfile.specs.Reader.{behind, table_part, read_job, Begins, beginning, file_size, table_count, sections, file_refusal}
+
+-- ---- the header
+
+-- With the one count that section one may have, d stands behind five numbers, and so it does for any other.
+pub depth_six : (c : ℕ) → depth_at c ≡ 6
+depth_six c = go (is_first_count c) refl
+  where
+    go : (b : Bool) → b ≡ is_first_count c → cond b (1 + c) 6 ≡ 6
+    go true e = let five = eqb-true c 5 (sym e) in omega (arith, five)
+    go false e = refl
 
 -- ---- the beginning
 
@@ -36,15 +46,15 @@ beginning_held file e =
 
 pub beginning_met : (file : List ℕ) → Begins file → beginning file ≡ 0
 beginning_met file ok =
-    simp (le-leb _ _ ok.least, le-leb _ largest_file ok.most, eq-eqb _ 0 ok.whole, ok.counted)
+    rw (le-leb _ _ ok.least, le-leb _ largest_file ok.most, eq-eqb _ 0 ok.whole, ok.counted) refl
 
 -- So it has its first count.
 pub begins_some : (file : List ℕ) → Begins file → 4 ≤ length file
 begins_some file ok = omega (arith, ok.least)
 
--- And a header behind a count of five numbers, the least that there is.
+-- And a whole header.
 pub begins_words : (file : List ℕ) → Begins file → 28 ≤ length file
-begins_words file ok = let five = eqb-true (first_count (words file)) 5 ok.counted in omega (arith, ok.least, five)
+begins_words file ok = omega (arith, ok.least, depth_six (first_count (words file)))
 
 -- ---- the sections
 

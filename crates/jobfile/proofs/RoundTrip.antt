@@ -24,7 +24,7 @@ use Rattle.jobfile.specs.Layout.{largest_file, is_first_count, first_count, head
 use Rattle.jobfile.specs.File.{section_one, section_three, file_words, job_file, Whole, WellFormed}
 use Rattle.jobfile.specs.Reader.{behind, selector_part, table_part, read_blocks, read_amplitudes, read_classes, read_job, file_size, file_refusal}
 use Rattle.jobfile.proofs.Sections.{blocks_each}
-use Rattle.jobfile.proofs.Passed.{Fits, Passes, refusal_held, refusal_met}
+use Rattle.jobfile.proofs.Passed.{depth_six, Fits, Passes, refusal_held, refusal_met}
 
 -- The words of a block of the job, and the part of selector i in its file.
 abbrev size : Job → ℕ
@@ -118,7 +118,7 @@ module _ (j : Job) (ok : Whole j) where
   pub made_passes : LawfulNumbers j.numbers → length (job_file j) ≤ largest_file → file_refusal (job_file j) ≡ 0
   made_passes lawful most = refusal_met (job_file j) (record {
     begins = record {
-      least = omega (arith, made_size, made_count);
+      least = omega (arith, made_size, depth_six (first_count (words (job_file j))));
       most = most;
       whole = omega (arith, made_size);
       counted = ap is_first_count made_count;
@@ -137,7 +137,7 @@ unfolding tabulate
 header_again ws counted there =
     let five : get_or ws 0 0 ≡ 5 = eqb-true _ 5 counted in
     rw five (ap (λ c. c ∷ (get_or ws 1 0 ∷ get_or ws 2 0 ∷ get_or ws 3 0 ∷ get_or ws 4 0 ∷ get_or ws 5 0 ∷ get_or ws 6 0 ∷ drop 7 ws)) (sym five)
-    ∙ tabulate_front 7 ws (omega (arith, there, five)))
+    ∙ tabulate_front 7 ws (omega (arith, there, depth_six (first_count ws))))
 
 -- What stands behind the header, taken apart and put together: d selectors with blocks of b words, a count and n classes.
 module _ (b d n : ℕ) (ws : List ℕ) (whole : length ws ≡ d * (1 + b) + (1 + n)) where

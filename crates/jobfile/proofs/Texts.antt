@@ -6,7 +6,7 @@ use mathlib.Core.List.{List, []}
 use Prim.Native.Nat.{ℕ, zero, suc, ◌*◌, ◌/◌, ◌≤◌, ◌<◌}
 use native.Mathlib.Omega.{arith}
 use lib.Dec.{leb}
-use lib.ListN.{length, take, drop}
+use lib.ListN.{length, take, drop, length-take}
 use borrow.Author.Tests.{lt-leb}
 use Rattle.torus.specs.Bytes.{words}
 use Rattle.answers.specs.Answers.{number, ◌or_else◌}
@@ -20,7 +20,8 @@ use Rattle.report.specs.Report.{report, answer_lines}
 use Rattle.report.proofs.Lines.{report_refused}
 use Rattle.jobfile.specs.declared.layout.TheConstants.{SAMPLE_ROOM}
 use Rattle.jobfile.specs.Layout.{largest_file, first_count, header_words}
-use Rattle.jobfile.specs.Reader.{file_refusal, read_job, job_answer, job_sample}
+use Rattle.jobfile.specs.declared.Outcome.{Outcome}
+use Rattle.jobfile.specs.Reader.{file_refusal, read_job, job_answer, job_sample, Gives}
 use Rattle.jobfile.specs.Output.{output, Shows}
 use Rattle.jobfile.proofs.Passed.{refusal_held}
 
@@ -88,6 +89,10 @@ module _ (file : List ℕ) where
       output_refused (λ z. let five : ◌≡◌ {A = ℕ} 5 0 = sym (ap number e) ∙ z in omega arith) ∙ ap answer_lines e
 
 -- ---- what is shown of a file
+
+-- What the reader gives stands in its room.
+pub gives_within : (r : Outcome) (a : Answer) (bs : List ℕ) → Gives r a bs → r.size ≤ length r.sample
+gives_within r a bs t = omega (arith, length-take r.size r.sample, ap length t.sample, t.size)
 
 -- The answer 5 is the output for every file that is too large.
 pub shows_long : (file mask body room : List ℕ) (size : ℕ) → largest_file < length file

@@ -9,13 +9,11 @@ ghost use Rattle.jobfile.specs.Reader as Reader;
 use crate::layout;
 use tables::{Numbers, Packing, Visibility};
 
-// Word i of the file, and 0 behind its end.
+// Word i of the file.
 fn number_at(file: &[u8], i: usize) -> u64
+    requires { 4 * i + 4 ≤ length file.now }
     ensures { result ≡ get_or (words file.now) i 0 }
 {
-    if file.len() / 4 <= i {
-        return 0;
-    }
     torus::word_at(file, i) as u64
 }
 

@@ -1,6 +1,6 @@
 // The limit and the layout of a job file, as in specs/Layout.antt, and the rooms for what a file can hold: their sizes, in bytes, follow
 // from a few limits.
-ghost use Rattle.std.specs.Prelude.{◌≡◌};
+ghost use Rattle.std.specs.Prelude.{◌≡◌, ◌≤◌};
 ghost use Rattle.jobfile.specs.Layout as Layout;
 
 // The bytes of the largest file.
@@ -31,9 +31,13 @@ pub fn is_first_count(count: u32) -> bool
 
 // The place of the count d.
 pub fn depth_at(count: u32) -> usize
-    ensures { result ≡ Layout.depth_at count }
+    ensures { (result ≡ Layout.depth_at count) × (result ≤ 6) }
 {
-    1 + count as usize
+    if is_first_count(count) {
+        1 + count as usize
+    } else {
+        6
+    }
 }
 
 // The words of the header.

@@ -59,6 +59,10 @@ module _ (x : Numbers) (d : ℕ) (amplitudes : List ℕ) (ok : Selectors x d amp
   pub job_sized : Sized (parameters x.scheme)
   job_sized = told_sized x.scheme ok.lawful.scheme
 
+  -- Each charge is of a set and an amplitude that the code takes.
+  pub chargeable : (i : ℕ) → i < d → Sized (parameters x.scheme) × (get_or (words amplitudes) i 0 ≤ 2 ^ 31)
+  chargeable i l = (job_sized, ok.small i l)
+
   pub selectors_fit : (i : ℕ) → i ≤ d → charges (parameters x.scheme) (words amplitudes) i + 2 ^ 32 ≤ 2 ^ 64
   selectors_fit = charges_fit (parameters x.scheme) job_sized d (words amplitudes) ok.small ok.depth
 

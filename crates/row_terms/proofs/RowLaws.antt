@@ -67,3 +67,23 @@ pub row_digits_at : (N g L j r p q : ℕ) (x : List ℕ) → p ≡ 4 * (r / L * 
 unfolding digit_polynomial
 row_digits_at N g L j r p q x ep eq ej =
     tabulate_cong N _ _ (λ i l. ap₂ (digit g L) (ap (λ ws. get_or ws i 0) (words_lent (r / L * N) N p q x ep eq) ∙ chunk_at N (r / L) (words x) i l) ej)
+
+-- ---- batches
+
+-- A batch of few rows is within what one of fifteen is within.
+pub within_few : (R : ℕ) (l : List ℕ) → R ≤ 15 → Within R l → Within 15 l
+within_few R l few h i li = omega (arith, h i li, mul-le-mul_right 1152921504606846976 few)
+
+-- A polynomial that is 0 as far as place i, and there too.
+pub agree_more : (i : ℕ) (f : ℕ → ℕ) → Agree i f (λ j. 0) → f i ≡ 0 → Agree (i + 1) f (λ j. 0)
+agree_more i f h e j l = go (eq-or-lt_of_le (le_of_suc-le-suc (rw (add-one i) at l)))
+  where
+    go : (j ≡ i) ⊎ (j < i) → f j ≡ 0
+    go (inl g) = ap f g ∙ e
+    go (inr g) = h j g
+
+-- A block has no fewer words than rows.
+pub rows_fit : (k l n : ℕ) → 0 < n → suc k * l ≤ suc k * l * (suc k * n)
+rows_fit k l n h =
+    let some : 1 ≤ suc k * n = omega (arith, mul-le-mul (zero-lt-suc k) h) in
+    omega (arith, mul-le-mul_left (suc k * l) some)

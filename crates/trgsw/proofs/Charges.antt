@@ -8,7 +8,7 @@ use Rattle.gadget.proofs.Bounds.{count_le}
 use Rattle.gadget.proofs.Laws.{halves_le}
 use Rattle.gadget.proofs.Rounding.{precision_le}
 use Rattle.trgsw.specs.declared.Parameters.{Parameters}
-use Rattle.trgsw.specs.Parameters.{Sized, sample_size, row_count}
+use Rattle.trgsw.specs.Parameters.{Sized, sample_size, row_count, block_size}
 use Rattle.trgsw.specs.External.{charge}
 
 module _ (p : Parameters) (ok : Sized p) where
@@ -22,7 +22,13 @@ module _ (p : Parameters) (ok : Sized p) where
   pub rows_le : row_count p ≤ 160
   rows_le = mul-le-mul polynomials_le (count_le p.g p.L ok.gadget)
 
+  pub block_size_le : block_size p ≤ 819200
+  block_size_le = omega (arith, mul-le-mul rows_le sample_size_le)
+
   -- The products of the first term of a charge, from the left on.
+  pub words_le : row_count p * p.N ≤ 163840
+  words_le = mul-le-mul rows_le ok.degree
+
   pub digits_le : row_count p * p.N * half p.g ≤ 335544320
   digits_le =
       let halves : p.L * half p.g * p.N ≤ 2 ^ 16 * 1024 = mul-le-mul (halves_le p.g p.L ok.gadget) ok.degree in

@@ -9,7 +9,7 @@ pub returns : goal.returns
 unfolding read_job
 returns c =
     let ws : List ℕ = words c.args.file.now in
-    let d = c.number_at-d.ensures ∙ ap (λ k. get_or ws k 0) (c.depth_at.ensures ∙ ap depth_at c.word_at.ensures) in
+    let d = c.number_at-d.ensures ∙ ap (λ k. get_or ws k 0) (c.depth_at.ensures.0 ∙ ap depth_at c.word_at.ensures) in
     rw (
       c.file_packing.ensures,
       c.scheme_of.ensures,
