@@ -157,6 +157,13 @@ accuracy j accepted bits key classes out given told =
 
 -- ---- what it says of each kind of table
 
+-- Of a public table the sample has the words of the lookup, whatever else is known of the job.
+pub lookup_words_public : (j : Job) → IsAccepted j → j.numbers.visibility ≡ Public → words (lookup_sample j) ≡ result_sample j
+lookup_words_public j accepted e =
+    let held = told_held [] (words j.table) j (lookup_accepted j accepted).job (public_tells j [] e) in
+    ap words (lookup_bytes j accepted)
+    ∙ words_bytes _ (looked_up_below (parameters j.numbers.scheme) (words j.blocks) (rotations j.numbers) (entry j) j.numbers.d held.word)
+
 -- Of a public table: the classes are those that were lent.
 pub accuracy_public : (j : Job) → IsAccepted j → j.numbers.visibility ≡ Public → (bits : ℕ → ℕ) (key out : List ℕ) → Premises j bits key out
     → Accurate j bits key (words j.table) out (lookup j) (lookup_sample j)
