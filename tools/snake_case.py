@@ -5,8 +5,10 @@ src/, exported C names and all strings.
 
 usage: tools/snake_case.py [--check] [FOLDER]     FOLDER has crates/; by default it is the repository of this script
 
---check writes nothing and exits with 1 if a name is left. Names that would fall together stop it before a file is written.
-What turns: the code of .antt files, .rt files outside strings, the lines of must-fail edits, and code spans of comments and of .md files.
+--check writes nothing and exits with 1 if a name is left. Names that would fall together in an .antt file stop it before a file is written.
+What turns: the code of .antt files, .rt files outside strings, the lines of must-fail edits, and code spans of comments and of .md files; of
+these also fenced blocks marked antt, rust, text or nothing. Indented blocks are yours to read. A name of the library is known by the `use`
+item that brings it in, so one that is reached through a module must not be spelled like a name of your own.
 """
 
 import collections
@@ -20,7 +22,7 @@ RUST_WORD = re.compile(r'[^\s(){}.;,@"«»◌:<>&!*=\[\]]+')
 QUIET = re.compile(r'"(?:[^"\\\n]|\\.)*"|(?<![^\s(){}.;,@"«»])--[^\n]*|\{-.*?-\}', re.S)
 RUST_QUIET = re.compile(r'"(?:[^"\\]|\\.)*"|//[^\n]*')
 SPAN = re.compile(r"`[^`\n]+`")
-FENCE = re.compile(r"^```(?:rust|text|antt)?\n.*?^```$", re.S | re.M)
+FENCE = re.compile(r"^```(\w*)\n.*?^```$", re.S | re.M)
 USE = re.compile(r"^(?:pub )?use ([^\s;{]+?)\.?(?:\{([^}]*)\})?(?: as (\S+))?$", re.M)
 DECLARED = re.compile(r"(?m)^ *(?:(?:pub|abbrev|unfoldable|private|opaque) +)*(\S+)(?: \{[^{}\n]*\})* :")
 BLOCK = re.compile(r"(?<![^\s(){};,])(?:where|let) +(?=\S)")
@@ -137,7 +139,8 @@ class Turner:
         return "\n".join(map(turn, text.split("\n")))
 
     def md(self, text):
-        return between(FENCE, text, self.words, self.prose)
+        block = lambda t: self.words(t) if FENCE.match(t)[1] in ("", "antt", "rust", "text") else t
+        return between(FENCE, text, block, self.prose)
 
 
 def between(pattern, text, inside, outside):
