@@ -80,6 +80,18 @@ module _ (j : Job) (accepted : IsAccepted j) where
   pub lookup_gates_vertical_few : let x = j.numbers in x.packing ≡ Vertical → x.d ≤ log x.scheme.N → gates (lookup j) ≡ x.d
   lookup_gates_vertical_few e h = lookup_gates ∙ gates_vertical_few j.numbers e h
 
+  -- ---- its sample
+
+  -- Where its entries are of words, it has the words of the lookup.
+  words_looked_up : ((t i : ℕ) → get_or (entry j t).sample i 0 < 2 ^ 32) → words (lookup_sample j) ≡ result_sample j
+  words_looked_up word =
+      ap words (lookup_bytes j accepted)
+      ∙ words_bytes _ (looked_up_below (parameters j.numbers.scheme) (words j.blocks) (rotations j.numbers) (entry j) j.numbers.d word)
+
+  -- The entries of a public table are, whatever else is known of the job.
+  pub lookup_words_public : j.numbers.visibility ≡ Public → words (lookup_sample j) ≡ result_sample j
+  lookup_words_public e = words_looked_up (told_held [] (words j.table) j ok.job (public_tells j [] e)).word
+
 -- ---- what it holds
 
 module _ (j : Job) (accepted : IsAccepted j) (bits : ℕ → ℕ) (key classes out : List ℕ) (given : Premises j bits key out)
@@ -104,9 +116,7 @@ module _ (j : Job) (accepted : IsAccepted j) (bits : ℕ → ℕ) (key classes o
   }
 
   pub lookup_words : words (lookup_sample j) ≡ result_sample j
-  lookup_words =
-      ap words (lookup_bytes j accepted)
-      ∙ words_bytes _ (looked_up_below (parameters j.numbers.scheme) (words j.blocks) (rotations j.numbers) (entry j) j.numbers.d held.word)
+  lookup_words = words_looked_up j accepted held.word
 
   -- Its phase is within the noise bound of what the bits name.
   lookup_near : let x = j.numbers in
@@ -156,13 +166,6 @@ accuracy j accepted bits key classes out given told =
     }
 
 -- ---- what it says of each kind of table
-
--- Of a public table the sample has the words of the lookup, whatever else is known of the job.
-pub lookup_words_public : (j : Job) → IsAccepted j → j.numbers.visibility ≡ Public → words (lookup_sample j) ≡ result_sample j
-lookup_words_public j accepted e =
-    let held = told_held [] (words j.table) j (lookup_accepted j accepted).job (public_tells j [] e) in
-    ap words (lookup_bytes j accepted)
-    ∙ words_bytes _ (looked_up_below (parameters j.numbers.scheme) (words j.blocks) (rotations j.numbers) (entry j) j.numbers.d held.word)
 
 -- Of a public table: the classes are those that were lent.
 pub accuracy_public : (j : Job) → IsAccepted j → j.numbers.visibility ≡ Public → (bits : ℕ → ℕ) (key out : List ℕ) → Premises j bits key out

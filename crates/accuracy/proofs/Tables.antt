@@ -81,10 +81,17 @@ module _ (x : Numbers) (classes : List ℕ) (ok : LawfulNumbers x) (below : (i :
 
   -- ---- a lookup in the table, with k masks and keys of weight W
 
-  -- A trivial sample has the phase of its message under every key, so a public table holds its classes exactly.
-  pub public_holds : (k : ℕ) (K : List ℕ) → Held x k K classes (λ t. record { sample = trivial x.scheme.N k (table_message x t classes); amplitude = 0 })
+  -- The entries of a public table are the trivial samples of its classes.
+  abbrev public_entry : (k t : ℕ) → Entry
+  public_entry k t = record { sample = trivial x.scheme.N k (table_message x t classes); amplitude = 0 }
+
+  pub entry_below : (k t u : ℕ) → get_or (public_entry k t).sample u 0 < 2 ^ 32
+  entry_below k t = trivial_below x.scheme.N k (table_message x t classes) (message_words t)
+
+  -- A trivial sample has the phase of its message under every key, so such a table holds its classes exactly.
+  pub public_holds : (k : ℕ) (K : List ℕ) → Held x k K classes (public_entry k)
   public_holds k K = record {
-    word = λ t. trivial_below x.scheme.N k (table_message x t classes) (message_words t);
+    word = entry_below k;
     near = λ t l i m. near_path (trivial_phase x.scheme.N k K (table_message x t classes) i m (message_words t i));
   }
 
@@ -113,28 +120,22 @@ module _ (x : Numbers) (classes : List ℕ) (ok : LawfulNumbers x) (below : (i :
           (length_chunk x.s h classes inside) (λ i l. class_below x classes ok below x.s h i) quiet
           (λ i l. let low : i < x.scheme.N = omega (arith, classes_le x ok) in near_congruent (table_near i low) (near_path (named_used h i l)))
 
-    -- ---- of a public table, whose entries are the trivial samples of its classes
-
-    abbrev public_entry : (t : ℕ) → Entry
-    public_entry t = record { sample = trivial x.scheme.N k (table_message x t classes); amplitude = 0 }
-
-    pub entry_below : (t u : ℕ) → get_or (public_entry t).sample u 0 < 2 ^ 32
-    entry_below t = trivial_below x.scheme.N k (table_message x t classes) (message_words t)
+    -- ---- of a public table
 
     module _ (bits : ℕ → ℕ) (K blocks amplitudes : List ℕ) (given : Selects set x.d bits K blocks amplitudes) where
-      -- No amplitude is declared of them, so the bound is the sum of the d charges.
-      public_bound : looked_up_bound set amplitudes (rotations x) public_entry x.d ≡ charges set amplitudes x.d
+      -- No amplitude is declared of its entries, so the bound is the sum of the d charges.
+      public_bound : looked_up_bound set amplitudes (rotations x) (public_entry k) x.d ≡ charges set amplitudes x.d
       public_bound = ap (λ n. n + charges set amplitudes x.d) (largest_none (2 ^ (x.d - rotations x))) ∙ zero-add _
 
       -- The phase is within the charges of what the bits name.
       pub public_near : Close (2 ^ 32) x.scheme.N (charges set amplitudes x.d)
-          (phase x.scheme.N k K (looked_up set blocks (rotations x) public_entry x.d)) (named_message x (entry_number bits x.d) classes)
-      public_near = close_weaken (le_of_eq public_bound) (table_near bits K blocks amplitudes given public_entry (public_holds k K))
+          (phase x.scheme.N k K (looked_up set blocks (rotations x) (public_entry k) x.d)) (named_message x (entry_number bits x.d) classes)
+      public_near = close_weaken (le_of_eq public_bound) (table_near bits K blocks amplitudes given (public_entry k) (public_holds k K))
 
       -- Where the charges are below half of a band, the sample holds the classes of that entry.
       pub public_classes : length classes ≡ table_size x → charges set amplitudes x.d < 2 ^ 31 / x.M
-          → decrypted x.scheme.N k x.M x.s K (looked_up set blocks (rotations x) public_entry x.d) ≡ entry_classes x (entry_number bits x.d) classes
-      public_classes size quiet = table_classes bits K blocks amplitudes given public_entry (public_holds k K) size (rw public_bound quiet)
+          → decrypted x.scheme.N k x.M x.s K (looked_up set blocks (rotations x) (public_entry k) x.d) ≡ entry_classes x (entry_number bits x.d) classes
+      public_classes size quiet = table_classes bits K blocks amplitudes given (public_entry k) (public_holds k K) size (rw public_bound quiet)
 
 -- Where nothing rotates, what the bits name is the entry's encoding, all N coefficients.
 pub named_whole : (x : Numbers) (classes : List ℕ) (h : ℕ) → rotations x ≡ 0 → Agree x.scheme.N (named_message x h classes) (entry_message x h classes)

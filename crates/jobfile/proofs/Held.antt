@@ -20,7 +20,7 @@ use Rattle.jobfile.specs.Reader.{behind, read_blocks, read_amplitudes, read_clas
 use Rattle.jobfile.specs.File.{file_job}
 use Rattle.jobfile.specs.Inner.{sample}
 use Rattle.jobfile.specs.declared.Outcome.{Outcome}
-use Rattle.jobfile.proofs.Passed.{Passes, begins_some, refusal_held}
+use Rattle.jobfile.proofs.Passed.{Passes, begins_words, refusal_held}
 
 -- ---- the numbers
 
@@ -34,7 +34,7 @@ module _ (file : List ℕ) (x : Numbers) (e : file_refusal file ≡ 0) (h : x �
 
   -- The file has a first count.
   pub held_some : 4 ≤ length file
-  held_some = begins_some file ok.begins
+  held_some = omega (arith, begins_words file ok.begins)
 
   -- With a header of w words and blocks of b words, it is of the words that they give, and not too large.
   pub held_size : (w b : ℕ) → w ≡ header_words (first_count (words file)) → b ≡ block_size (parameters x.scheme)

@@ -25,7 +25,7 @@ use Rattle.jobfile.specs.Reader.{behind, table_part, read_job, Begins, beginning
 pub depth_six : (c : ℕ) → depth_at c ≡ 6
 depth_six c = go (is_first_count c) refl
   where
-    go : (b : Bool) → b ≡ is_first_count c → cond b (1 + c) 6 ≡ 6
+    go : (b : Bool) → b ≡ is_first_count c → 1 + cond b c 5 ≡ 6
     go true e = let five = eqb-true c 5 (sym e) in omega (arith, five)
     go false e = refl
 
@@ -48,11 +48,7 @@ pub beginning_met : (file : List ℕ) → Begins file → beginning file ≡ 0
 beginning_met file ok =
     rw (le-leb _ _ ok.least, le-leb _ largest_file ok.most, eq-eqb _ 0 ok.whole, ok.counted) refl
 
--- So it has its first count.
-pub begins_some : (file : List ℕ) → Begins file → 4 ≤ length file
-begins_some file ok = omega (arith, ok.least)
-
--- And a whole header.
+-- So it has a whole header.
 pub begins_words : (file : List ℕ) → Begins file → 28 ≤ length file
 begins_words file ok = omega (arith, ok.least, depth_six (first_count (words file)))
 

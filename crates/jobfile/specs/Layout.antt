@@ -21,7 +21,7 @@ header_number i ws = get_or ws (1 + i) 0
 
 -- Section two begins behind c numbers, with the count d. A file with any other count is refused, and is read as if it had five.
 abbrev pub depth_at : (c : ℕ) → ℕ
-depth_at c = cond (is_first_count c) (1 + c) 6
+depth_at c = 1 + cond (is_first_count c) c 5
 
 -- The words of the header: seven with the count 5, so that a lawful file isn't "under 28" bytes.
 abbrev pub header_words : (c : ℕ) → ℕ

@@ -33,11 +33,12 @@ pub fn is_first_count(count: u32) -> bool
 pub fn depth_at(count: u32) -> usize
     ensures { (result ≡ Layout.depth_at count) × (result ≤ 6) }
 {
-    if is_first_count(count) {
-        1 + count as usize
+    let numbers = if is_first_count(count) {
+        count as usize
     } else {
-        6
-    }
+        5
+    };
+    1 + numbers
 }
 
 // The words of the header.

@@ -41,14 +41,14 @@ module _ (p : Parameters) (amplitudes : List ℕ) where
   charges_up (suc d) e l = up_one d e (λ low. charges_up d e low) (eq-or-lt_of_le (le_of_suc-le-suc l))
 
 -- As many charges and an amplitude are below 2^64, whatever the parameter set.
-module _ (p : Parameters) (sized : Sized p) (d : ℕ) (amplitudes : List ℕ) (small : (i : ℕ) → i < d → get_or amplitudes i 0 ≤ 2 ^ 31) where
+module _ (p : Parameters) (d : ℕ) (amplitudes : List ℕ) (ok : (i : ℕ) → i < d → Sized p × (get_or amplitudes i 0 ≤ 2 ^ 31)) where
   charges_below : (i : ℕ) → i ≤ d → charges p amplitudes i ≤ i * (5 * 2 ^ 57 + 4097 * 2 ^ 31)
   charges_below zero l = omega (arith, charges_none p amplitudes)
   charges_below (suc i) l = omega (
     arith,
     charges_more p amplitudes (suc i) i (sym (add-one i)),
     charges_below i (omega arith),
-    charge_le p sized _ (small i l),
+    charge_le p (ok i l).0 _ (ok i l).1,
   )
 
   pub charges_fit : d ≤ deepest → (i : ℕ) → i ≤ d → charges p amplitudes i + 2 ^ 32 ≤ 2 ^ 64
@@ -56,15 +56,11 @@ module _ (p : Parameters) (sized : Sized p) (d : ℕ) (amplitudes : List ℕ) (s
 
 -- What the code asks of a lookup's numbers gives all of this.
 module _ (x : Numbers) (d : ℕ) (amplitudes : List ℕ) (ok : Selectors x d amplitudes) where
-  pub job_sized : Sized (parameters x.scheme)
-  job_sized = told_sized x.scheme ok.lawful.scheme
-
-  -- Each charge is of a set and an amplitude that the code takes.
   pub chargeable : (i : ℕ) → i < d → Sized (parameters x.scheme) × (get_or (words amplitudes) i 0 ≤ 2 ^ 31)
-  chargeable i l = (job_sized, ok.small i l)
+  chargeable i l = (told_sized x.scheme ok.lawful.scheme, ok.small i l)
 
   pub selectors_fit : (i : ℕ) → i ≤ d → charges (parameters x.scheme) (words amplitudes) i + 2 ^ 32 ≤ 2 ^ 64
-  selectors_fit = charges_fit (parameters x.scheme) job_sized d (words amplitudes) ok.small ok.depth
+  selectors_fit = charges_fit (parameters x.scheme) d (words amplitudes) chargeable ok.depth
 
 -- Fewer selectors.
 pub fewer : (x : Numbers) (d e : ℕ) (amplitudes : List ℕ) → e ≤ d → Selectors x d amplitudes → Selectors x e amplitudes

@@ -68,7 +68,7 @@ unfolding digit_polynomial
 row_digits_at N g L j r p q x ep eq ej =
     tabulate_cong N _ _ (λ i l. ap₂ (digit g L) (ap (λ ws. get_or ws i 0) (words_lent (r / L * N) N p q x ep eq) ∙ chunk_at N (r / L) (words x) i l) ej)
 
--- ---- batches
+-- ---- few rows, digits that are 0, the words of a block
 
 -- A batch of few rows is within what one of fifteen is within.
 pub within_few : (R : ℕ) (l : List ℕ) → R ≤ 15 → Within R l → Within 15 l
