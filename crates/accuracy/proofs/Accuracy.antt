@@ -17,8 +17,7 @@ use Rattle.torus.proofs.Magnitudes.{near_distance}
 use Rattle.torus.proofs.Parts.{length_words, words_bytes}
 use Rattle.ring.proofs.Close.{Close}
 use Rattle.ring.proofs.Degrees.{degree_pos}
-use Rattle.answers.specs.Answers.{number, bound, gates}
-use Rattle.answers.specs.declared.Answer.{Answer}
+use Rattle.answers.specs.Answers.{Answer, number, bound, gates}
 use Rattle.trlwe.specs.Classes.{encode}
 use Rattle.trlwe.specs.Sample.{phase, decrypted}
 use Rattle.trlwe.specs.Calls.{decrypt_classes, decrypt_classes_classes}
@@ -43,7 +42,7 @@ use Rattle.trees.proofs.Noise.{Selects}
 use Rattle.trees.proofs.LookedUp.{looked_up_below, looked_up_none}
 use Rattle.tables.proofs.Packings.{rotations_le, rotations_horizontal, gates_horizontal, classes_vertical, gates_vertical, gates_vertical_few, classes_le}
 use Rattle.accuracy.proofs.Tables.{Held, chunk_one, named_word, named_used, named_whole, entry_bytes, table_near, table_classes}
-use Rattle.lookup.proofs.Lent.{lookup_bytes, lookup_length}
+use Rattle.lookup.proofs.Results.{lookup_bytes, lookup_length}
 use Rattle.accuracy.proofs.Told.{told_size, told_below, told_held, public_tells, noise_bound_public}
 use Rattle.trees.proofs.Largest.{largest_first, largest_more}
 

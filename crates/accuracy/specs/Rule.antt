@@ -4,8 +4,7 @@ use Rattle.std.specs.Prelude.{◌≡◌, List, [], ◌∷◌, ℕ, ◌*◌, ◌�
 use Rattle.torus.specs.Sum.{chunk}
 use Rattle.torus.specs.Word.{distance}
 use Rattle.torus.specs.Bytes.{AreBytes, words, bytes}
-use Rattle.answers.specs.Answers.{number, bound}
-use Rattle.answers.specs.declared.Answer.{Answer}
+use Rattle.answers.specs.Answers.{Answer, number, bound}
 use Rattle.trlwe.specs.Classes.{encode}
 use Rattle.trlwe.specs.Sample.{phase}
 use Rattle.trlwe.specs.Calls.{encrypt_classes, encrypt_classes_sample, decrypt_classes, decrypt_classes_classes}

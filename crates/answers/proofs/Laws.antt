@@ -1,6 +1,6 @@
 -- Laws of the checks and of answers, for the calls that are made up of them.
 -- Assumes nothing.
-use mathlib.Core.Path.{◌≡◌, refl, ap, ap₂, sym, ◌∙◌}
+use mathlib.Core.Path.{◌≡◌, refl, ap, sym, ◌∙◌}
 use mathlib.Core.Bool.{Bool, true, false, cond, ◌&&◌}
 use mathlib.Core.List.{List, [], ◌∷◌}
 use Prim.Native.Nat.{ℕ, zero, suc, ◌+◌, ◌*◌, ◌/◌, ◌^◌, ◌≤◌, ◌<◌, max}
@@ -9,97 +9,88 @@ use native.Mathlib.Omega.{arith}
 use lib.Dec.{eqb, leb, ltb}
 use lib.ListN.{length, get_or, drop, drop_of_length-le}
 use lib.Seq.{drop-cons}
-use borrow.Author.Tests.{ltb-true, ltb-false, leb-true, eqb-true, lt-ltb, le-ltb, le-leb, eq-eqb, ne_eqb}
+use borrow.Author.Tests.{ltb-true, ltb-false, leb-true, eqb-true, lt-ltb, le-ltb, le-leb, eq-eqb}
 use Rattle.torus.specs.Word.{magnitude}
 use Rattle.torus.specs.Bytes.{words, bytes}
 use Rattle.torus.proofs.Parts.{bytes_words}
-use Rattle.torus.proofs.Tests.{both, held}
+use Rattle.torus.proofs.Tests.{both}
 use Rattle.gadget.specs.Digits.{Lawful, is_lawful}
 use Rattle.gadget.proofs.Bounds.{test_lawful, lawful_test}
 use Rattle.ring.specs.Polynomial.{Degree, is_degree}
 use Rattle.ring.proofs.Degrees.{test_degree, degree_test}
-use Rattle.answers.specs.declared.Answer.{Answer}
-use Rattle.answers.specs.declared.Answer.TheVariants.{Accepted, Refused, Noisy}
+use Rattle.std.specs.Prelude.{Result, Ok, Err}
 use Rattle.answers.specs.declared.Ledger.{Ledger}
-use Rattle.answers.specs.Answers.{number, ◌or_else◌, noise, greatest_magnitude, after}
-use Rattle.answers.specs.Checks.{ClassNumber, is_class_number, all_below, degree, gadget, class_number, count, depth, position, exact, amplitude, amplitudes, classes, bit, key, first}
+use Rattle.answers.specs.declared.Refusal.{Refusal}
+use Rattle.answers.specs.declared.Refusal.TheVariants as Refused
+use Rattle.answers.specs.Answers.{refusal_number, number, noise, greatest_magnitude, after}
+use Rattle.answers.specs.Checks.{Checked, passed, unless, ◌or_else◌, ClassNumber, is_class_number, all_below, degree, gadget, class_number, count, depth, position, exact, amplitude, amplitudes, classes, bit, key}
 use Rattle.answers.proofs.ClassNumbers.{test_class_number, class_number_test}
 
 -- ---- checks one after another
 
--- The earlier of two checks that refuses, by the cases of the earlier.
-pub first_is : (a b r : ℕ) → (a ≡ 0 → r ≡ b) → (1 ≤ a → r ≡ a) → r ≡ first a b
-first_is zero b r none some = none refl
-first_is (suc a) b r none some = some (omega arith)
-
 -- Two checks in one.
-pub first_or_else : (a b : ℕ) (x : Answer) → (first a b or_else x) ≡ (a or_else b or_else x)
-unfolding ◌or_else◌
-first_or_else zero b x = refl
-first_or_else (suc a) b x = refl
-
--- Three checks in one.
-pub triple_or_else : (a b c : ℕ) (x : Answer) → (first a (first b c) or_else x) ≡ (a or_else b or_else c or_else x)
-triple_or_else a b c x = first_or_else a (first b c) x ∙ ap (λ y. a or_else y) (first_or_else b c x)
-
--- Five checks in one.
-pub five_or_else : (a b c d e : ℕ) (x : Answer)
-    → (first a (first b (first c (first d e))) or_else x) ≡ (a or_else b or_else c or_else d or_else e or_else x)
-five_or_else a b c d e x = triple_or_else a b (first c (first d e)) x ∙ ap (λ y. a or_else b or_else y) (triple_or_else c d e x)
-
--- However they are grouped.
-pub first_first : (a b c : ℕ) → first (first a b) c ≡ first a (first b c)
-first_first zero b c = refl
-first_first (suc a) b c = refl
-
--- Checks in one that passes have all passed.
-pub first_none : (a b : ℕ) → first a b ≡ 0 → (a ≡ 0) × (b ≡ 0)
-first_none zero b e = (refl, e)
-first_none (suc a) b e = absurd (omega arith)
-
--- Two checks that pass are one that passes.
-pub first_met : (a b : ℕ) → a ≡ 0 → b ≡ 0 → first a b ≡ 0
-first_met a b ea eb = ap₂ first ea eb
-
--- The number of the first check that refuses, and of the second where the first passes.
-pub first_stopped : (a b r : ℕ) → r ≡ a → (r ≡ 0 → ⊥) → r ≡ first a b
-first_stopped a b r e some = first_is a b r (λ z. absurd (some (e ∙ z))) (λ h. e)
-
-pub first_passed : (a b r : ℕ) → a ≡ 0 → r ≡ b → r ≡ first a b
-first_passed a b r z e = first_is a b r (λ h. e) (λ h. absurd (omega arith))
+pub or_else_assoc : {T : Type 0} (a b : Checked) (x : Result T Refusal) → ((a or_else b) or_else x) ≡ (a or_else b or_else x)
+or_else_assoc (Ok u) b x = refl
+or_else_assoc (Err r) b x = refl
 
 -- A check that refuses gives the answer.
-pub stopped : (a k : ℕ) (x : Answer) → k ≡ a → (k ≡ 0 → ⊥) → Refused k ≡ (a or_else x)
-unfolding ◌or_else◌
-stopped zero k x e some = absurd (some e)
-stopped (suc a) k x e some = ap Refused e
+pub stopped : {T : Type 0} (a : Checked) (r : Refusal) (x : Result T Refusal) → a ≡ Err r → Err r ≡ (a or_else x)
+stopped a r x e = rw e refl
 
 -- A check that passes leaves the answer to the rest.
-pub went_on : (a : ℕ) (x : Answer) → a ≡ 0 → (a or_else x) ≡ x
-unfolding ◌or_else◌
-went_on zero x e = refl
-went_on (suc a) x e = absurd (omega arith)
+pub went_on : {T : Type 0} (a : Checked) (x : Result T Refusal) → a ≡ passed → (a or_else x) ≡ x
+went_on a x e = rw e refl
+
+-- A refusal has a number.
+pub number_some : (r : Refusal) → 1 ≤ refusal_number r
+number_some Refused.Degree = omega arith
+number_some Refused.Gadget = omega arith
+number_some Refused.ClassNumber = omega arith
+number_some Refused.Count = omega arith
+number_some Refused.Depth = omega arith
+number_some Refused.Position = omega arith
+number_some Refused.Length = omega arith
+number_some Refused.Amplitude = omega arith
+number_some Refused.Class = omega arith
+number_some Refused.Bit = omega arith
+number_some Refused.Key = omega arith
+number_some (Refused.Noise b) = omega arith
+
+-- A check that refuses does not pass.
+err_passes : (r : Refusal) → Err r ≡ passed → ⊥
+err_passes r e = cc
+
+-- Checks in one that passes have all passed, and back.
+pub both_passed : (a b : Checked) → (a or_else b) ≡ passed → (a ≡ passed) × (b ≡ passed)
+both_passed (Ok u) b e = (refl, e)
+both_passed (Err r) b e = absurd (err_passes r e)
+
+pub both_pass : (a b : Checked) → a ≡ passed → b ≡ passed → (a or_else b) ≡ passed
+both_pass a b ea eb = went_on a b ea ∙ eb
+
+-- A check of the number 0 passes.
+pub number_passed : (a : Checked) → number a ≡ 0 → a ≡ passed
+number_passed (Ok u) e = refl
+number_passed (Err r) e = absurd (let some : 1 ≤ refusal_number r = number_some r in omega arith)
 
 -- Each check of an accepted call has passed.
-pub before : (a : ℕ) (x : Answer) → number (a or_else x) ≡ 0 → (a ≡ 0) × (number x ≡ 0)
-unfolding ◌or_else◌
-before zero x e = (refl, e)
-before (suc a) x e = absurd (omega arith)
+pub before : {T : Type 0} (a : Checked) (x : Result T Refusal) → number (a or_else x) ≡ 0 → (a ≡ passed) × (number x ≡ 0)
+before (Ok u) x e = (refl, e)
+before (Err r) x e = absurd (let some : 1 ≤ refusal_number r = number_some r in omega arith)
 
--- A check gives 0 or its own number, so it gives no other n; nor do two in one.
-pub check_other : (t : Bool) (k n : ℕ) → 1 ≤ n → (k ≡ n → ⊥) → cond t 0 k ≡ n → ⊥
-check_other true k n some other e = omega arith
-check_other false k n some other e = other e
+-- A check passes or gives its own number, so it gives no other n; nor do two in one.
+pub check_other : (t : Bool) (r : Refusal) (n : ℕ) → 1 ≤ n → (refusal_number r ≡ n → ⊥) → number (unless t r) ≡ n → ⊥
+check_other true r n some other e = omega arith
+check_other false r n some other e = other e
 
-pub first_other : (a b n : ℕ) → (a ≡ n → ⊥) → (b ≡ n → ⊥) → first a b ≡ n → ⊥
-first_other zero b n ha hb = hb
-first_other (suc a) b n ha hb = ha
+pub first_other : (a b : Checked) (n : ℕ) → (number a ≡ n → ⊥) → (number b ≡ n → ⊥) → number (a or_else b) ≡ n → ⊥
+first_other (Ok u) b n ha hb = hb
+first_other (Err r) b n ha hb = ha
 
 -- Behind a check that does not give n, the answer n comes of the rest.
-pub past_other : (a n : ℕ) (x : Answer) → (a ≡ n → ⊥) → number (a or_else x) ≡ n → (a ≡ 0) × (number x ≡ n)
-unfolding ◌or_else◌
-past_other zero n x other e = (refl, e)
-past_other (suc a) n x other e = absurd (other e)
+pub past_other : {T : Type 0} (a : Checked) (n : ℕ) (x : Result T Refusal) → (number a ≡ n → ⊥) → number (a or_else x) ≡ n → (a ≡ passed) × (number x ≡ n)
+past_other (Ok u) n x other e = (refl, e)
+past_other (Err r) n x other e = absurd (other e)
 
 -- ---- each word below a limit
 
@@ -136,99 +127,103 @@ all_below_end limit ws i h = rw (drop_of_length-le ws h)
 
 -- ---- what a check that passes tells
 
-pub degree_held : (N : ℕ) → degree N ≡ 0 → Degree N
-degree_held N e = test_degree N (held (is_degree N) 0 0 e).0
+test_passed : (t : Bool) (r : Refusal) → unless t r ≡ passed → t ≡ true
+test_passed true r e = refl
+test_passed false r e = absurd (err_passes r e)
 
-pub degree_met : (N : ℕ) → Degree N → degree N ≡ 0
+pub degree_held : (N : ℕ) → degree N ≡ passed → Degree N
+degree_held N e = test_degree N (test_passed (is_degree N) _ e)
+
+pub degree_met : (N : ℕ) → Degree N → degree N ≡ passed
 degree_met N ok = simp (degree_test N ok)
 
-pub gadget_held : (g L : ℕ) → gadget g L ≡ 0 → Lawful g L
-gadget_held g L e = test_lawful g L (held (is_lawful g L) 0 1 e).0
+pub gadget_held : (g L : ℕ) → gadget g L ≡ passed → Lawful g L
+gadget_held g L e = test_lawful g L (test_passed (is_lawful g L) _ e)
 
-pub gadget_met : (g L : ℕ) → Lawful g L → gadget g L ≡ 0
+pub gadget_met : (g L : ℕ) → Lawful g L → gadget g L ≡ passed
 gadget_met g L ok = simp (lawful_test g L ok)
 
-pub class_number_held : (M : ℕ) → class_number M ≡ 0 → ClassNumber M
-class_number_held M e = test_class_number M (held (is_class_number M) 0 2 e).0
+pub class_number_held : (M : ℕ) → class_number M ≡ passed → ClassNumber M
+class_number_held M e = test_class_number M (test_passed (is_class_number M) _ e)
 
-pub class_number_met : (M : ℕ) → ClassNumber M → class_number M ≡ 0
+pub class_number_met : (M : ℕ) → ClassNumber M → class_number M ≡ passed
 class_number_met M ok = simp (class_number_test M ok)
 
-pub count_held : (N s : ℕ) → count N s ≡ 0 → (1 ≤ s) × (s ≤ N)
+pub count_held : (N s : ℕ) → count N s ≡ passed → (1 ≤ s) × (s ≤ N)
 count_held N s e =
-    let p = both (leb 1 s) (leb s N) (held (leb 1 s && leb s N) 0 3 e).0 in
+    let p = both (leb 1 s) (leb s N) (test_passed (leb 1 s && leb s N) _ e) in
     (leb-true 1 s p.0, leb-true s N p.1)
 
-pub count_met : (N s : ℕ) → 1 ≤ s → s ≤ N → count N s ≡ 0
+pub count_met : (N s : ℕ) → 1 ≤ s → s ≤ N → count N s ≡ passed
 count_met N s some most = simp (le-leb 1 s some, le-leb s N most)
 
-pub depth_held : (most d : ℕ) → depth most d ≡ 0 → d ≤ most
-depth_held most d e = leb-true d most (held (leb d most) 0 3 e).0
+pub depth_held : (most d : ℕ) → depth most d ≡ passed → d ≤ most
+depth_held most d e = leb-true d most (test_passed (leb d most) _ e)
 
-pub depth_met : (most d : ℕ) → d ≤ most → depth most d ≡ 0
+pub depth_met : (most d : ℕ) → d ≤ most → depth most d ≡ passed
 depth_met most d h = simp (le-leb d most h)
 
-pub position_held : (N p : ℕ) → position N p ≡ 0 → p < N
-position_held N p e = ltb-true p N (held (ltb p N) 0 3 e).0
+pub position_held : (N p : ℕ) → position N p ≡ passed → p < N
+position_held N p e = ltb-true p N (test_passed (ltb p N) _ e)
 
-pub position_met : (N p : ℕ) → p < N → position N p ≡ 0
+pub position_met : (N p : ℕ) → p < N → position N p ≡ passed
 position_met N p l = simp (lt-ltb p N l)
 
-pub exact_held : (bytes words : ℕ) → exact bytes words ≡ 0 → bytes ≡ 4 * words
-exact_held bytes words e = eqb-true bytes (4 * words) (held (eqb bytes (4 * words)) 0 4 e).0
+pub exact_held : (bytes words : ℕ) → exact bytes words ≡ passed → bytes ≡ 4 * words
+exact_held bytes words e = eqb-true bytes (4 * words) (test_passed (eqb bytes (4 * words)) _ e)
 
-pub exact_met : (bytes words : ℕ) → bytes ≡ 4 * words → exact bytes words ≡ 0
+pub exact_met : (bytes words : ℕ) → bytes ≡ 4 * words → exact bytes words ≡ passed
 exact_met bytes words e = simp (eq-eqb bytes (4 * words) e)
 
-pub amplitude_held : (A : ℕ) → amplitude A ≡ 0 → A ≤ 2 ^ 31
-amplitude_held A e = leb-true A (2 ^ 31) (held (leb A (2 ^ 31)) 0 5 e).0
+pub amplitude_held : (A : ℕ) → amplitude A ≡ passed → A ≤ 2 ^ 31
+amplitude_held A e = leb-true A (2 ^ 31) (test_passed (leb A (2 ^ 31)) _ e)
 
-pub amplitude_met : (A : ℕ) → A ≤ 2 ^ 31 → amplitude A ≡ 0
+pub amplitude_met : (A : ℕ) → A ≤ 2 ^ 31 → amplitude A ≡ passed
 amplitude_met A h = simp (le-leb A (2 ^ 31) h)
 
-pub amplitudes_held : (As : List ℕ) → amplitudes As ≡ 0 → (i : ℕ) → i < length As → get_or As i 0 ≤ 2 ^ 31
+pub amplitudes_held : (As : List ℕ) → amplitudes As ≡ passed → (i : ℕ) → i < length As → get_or As i 0 ≤ 2 ^ 31
 amplitudes_held As e i h =
-    let low : get_or As i 0 < 2 ^ 31 + 1 = all_below_at (2 ^ 31 + 1) As (held (all_below (2 ^ 31 + 1) As) 0 5 e).0 i h in
+    let low : get_or As i 0 < 2 ^ 31 + 1 = all_below_at (2 ^ 31 + 1) As (test_passed (all_below (2 ^ 31 + 1) As) _ e) i h in
     omega arith
 
-pub amplitudes_met : (As : List ℕ) → ((i : ℕ) → i < length As → get_or As i 0 ≤ 2 ^ 31) → amplitudes As ≡ 0
+pub amplitudes_met : (As : List ℕ) → ((i : ℕ) → i < length As → get_or As i 0 ≤ 2 ^ 31) → amplitudes As ≡ passed
 amplitudes_met As h =
     let all : all_below (2 ^ 31 + 1) As ≡ true = below_all (2 ^ 31 + 1) As (λ i l. let low : get_or As i 0 ≤ 2 ^ 31 = h i l in omega arith) in
     simp all
 
-pub classes_held : (M : ℕ) (cs : List ℕ) → classes M cs ≡ 0 → (i : ℕ) → i < length cs → get_or cs i 0 < M
-classes_held M cs e = all_below_at M cs (held (all_below M cs) 0 6 e).0
+pub classes_held : (M : ℕ) (cs : List ℕ) → classes M cs ≡ passed → (i : ℕ) → i < length cs → get_or cs i 0 < M
+classes_held M cs e = all_below_at M cs (test_passed (all_below M cs) _ e)
 
-pub classes_met : (M : ℕ) (cs : List ℕ) → ((i : ℕ) → i < length cs → get_or cs i 0 < M) → classes M cs ≡ 0
+pub classes_met : (M : ℕ) (cs : List ℕ) → ((i : ℕ) → i < length cs → get_or cs i 0 < M) → classes M cs ≡ passed
 classes_met M cs h = simp (below_all M cs h)
 
-pub bit_held : (m : ℕ) → bit m ≡ 0 → m ≤ 1
-bit_held m e = leb-true m 1 (held (leb m 1) 0 6 e).0
+pub bit_held : (m : ℕ) → bit m ≡ passed → m ≤ 1
+bit_held m e = leb-true m 1 (test_passed (leb m 1) _ e)
 
-pub bit_met : (m : ℕ) → m ≤ 1 → bit m ≡ 0
+pub bit_met : (m : ℕ) → m ≤ 1 → bit m ≡ passed
 bit_met m h = simp (le-leb m 1 h)
 
-pub key_held : (K : List ℕ) → key K ≡ 0 → (i : ℕ) → i < length K → get_or K i 0 ≤ 1
-key_held K e i h = let low : get_or K i 0 < 2 = all_below_at 2 K (held (all_below 2 K) 0 7 e).0 i h in omega arith
+pub key_held : (K : List ℕ) → key K ≡ passed → (i : ℕ) → i < length K → get_or K i 0 ≤ 1
+key_held K e i h = let low : get_or K i 0 < 2 = all_below_at 2 K (test_passed (all_below 2 K) _ e) i h in omega arith
 
-pub key_met : (K : List ℕ) → ((i : ℕ) → i < length K → get_or K i 0 ≤ 1) → key K ≡ 0
+pub key_met : (K : List ℕ) → ((i : ℕ) → i < length K → get_or K i 0 ≤ 1) → key K ≡ passed
 key_met K h = let all : all_below 2 K ≡ true = below_all 2 K (λ i l. let low : get_or K i 0 ≤ 1 = h i l in omega arith) in simp all
 
-quiet : (t : Bool) (f : Ledger) (b : ℕ) → number (cond t (Accepted f) (Noisy b)) ≡ 0 → t ≡ true
+quiet : (t : Bool) (f : Ledger) (b : ℕ) → number (cond t (Ok f) (Err (Refused.Noise b))) ≡ 0 → t ≡ true
 quiet true f b e = refl
 quiet false f b e = absurd (omega arith)
 
 pub noise_held : (M b g : ℕ) → number (noise M b g) ≡ 0 → b < 2 ^ 31 / M
 noise_held M b g e = ltb-true b (2 ^ 31 / M) (quiet (ltb b (2 ^ 31 / M)) _ b e)
 
-loud : (t : Bool) (f : Ledger) (b : ℕ) → number (cond t (Accepted f) (Noisy b)) ≡ 9 → t ≡ false
+loud : (t : Bool) (f : Ledger) (b : ℕ) → number (cond t (Ok f) (Err (Refused.Noise b))) ≡ 9 → t ≡ false
 loud true f b e = absurd (omega arith)
 loud false f b e = refl
 
 pub noise_refused : (M b g : ℕ) → number (noise M b g) ≡ 9 → 2 ^ 31 / M ≤ b
 noise_refused M b g e = ltb-false b (2 ^ 31 / M) (loud (ltb b (2 ^ 31 / M)) _ b e)
 
-pub noise_met : (M b g : ℕ) → b < 2 ^ 31 / M → noise M b g ≡ Accepted (record { bound = b; gates = g })
+pub noise_met : (M b g : ℕ) → b < 2 ^ 31 / M → noise M b g ≡ Ok (record { bound = b; gates = g })
 noise_met M b g h = simp (lt-ltb b (2 ^ 31 / M) h)
 
 -- ---- the greatest magnitude
@@ -261,15 +256,22 @@ greatest_end ws i h = rw (drop_of_length-le ws h)
 -- ---- what a call leaves in a slice
 
 -- "A refusal changes no lent slice."
-pub after_refused : (a : Answer) (written before : List ℕ) → (number a ≡ 0 → ⊥) → before ≡ after a written before
+pub after_refused : {T : Type 0} (a : Result T Refusal) (written before : List ℕ) → (number a ≡ 0 → ⊥) → before ≡ after a written before
 unfolding after
-after_refused a written before refused = simp (ne_eqb (number a) 0 refused)
+after_refused (Ok x) written before refused = absurd (refused refl)
+after_refused (Err r) written before refused = refl
 
-pub after_written : (a : Answer) (written before : List ℕ) → number a ≡ 0 → after a written before ≡ written
+-- The same of a refusal that is known.
+pub after_err : {T : Type 0} (a : Result T Refusal) (r : Refusal) (written before : List ℕ) → a ≡ Err r → before ≡ after a written before
 unfolding after
-after_written a written before e = simp (eq-eqb (number a) 0 e)
+after_err a r written before e = rw e refl
+
+pub after_written : {T : Type 0} (a : Result T Refusal) (written before : List ℕ) → number a ≡ 0 → after a written before ≡ written
+unfolding after
+after_written (Ok x) written before e = refl
+after_written (Err r) written before e = absurd (let some : 1 ≤ refusal_number r = number_some r in omega arith)
 
 -- An accepted call leaves the bytes of the words that it wrote.
-pub after_accepted : (a : Answer) (k : ℕ) (out ws before : List ℕ) → number a ≡ 0 → length out ≡ 4 * k → ((i : ℕ) → get_or out i 0 < 256)
-    → words out ≡ ws → out ≡ after a (bytes ws) before
+pub after_accepted : {T : Type 0} (a : Result T Refusal) (k : ℕ) (out ws before : List ℕ) → number a ≡ 0 → length out ≡ 4 * k
+    → ((i : ℕ) → get_or out i 0 < 256) → words out ≡ ws → out ≡ after a (bytes ws) before
 after_accepted a k out ws before e len byte h = sym (after_written a (bytes ws) before e ∙ sym (ap bytes h) ∙ bytes_words k out len byte)

@@ -2,13 +2,75 @@
 // `noise`, asks that the number of classes has been tested.
 #![tactic(auto)]
 
-ghost use Rattle.std.specs.Prelude.{◌≡◌, cond, ◌+◌, ◌*◌, ◌^◌, ◌≤◌, ◌<◌, length, take};
+ghost use Rattle.std.specs.Prelude.{◌≡◌, ◌+◌, ◌^◌, ◌≤◌, ◌<◌, length};
 ghost use Rattle.torus.specs.Bytes.{words};
 ghost use Rattle.answers.specs.Checks as Checks;
 ghost use Rattle.answers.specs.Answers as Answers;
 
+// Why a call refuses: each row of the table of returned numbers, whose numbers `number` has. One that judges several things has a case
+// for each.
+#[derive(Clone, Copy, Debug, PartialEq, Eq)]
+pub enum Refusal {
+    // 1: N is no power of two from 1 to 1,024.
+    Degree,
+    // 2: a word has no room for the digits.
+    Gadget,
+    // 3: M is no power of two from 2 to 65,536.
+    ClassNumber,
+    // 4: a number that counts from 1, as of classes in an entry or of a digit, is 0 or too large.
+    Count,
+    // 4: there are too many selectors.
+    Depth,
+    // 4: a polynomial has no coefficient of that number.
+    Position,
+    // 5: a slice has another length than the exact one.
+    Length,
+    // 6: a declared amplitude is above 2^31.
+    Amplitude,
+    // 7: a class is not below M.
+    Class,
+    // 7: a selector bit is above 1.
+    Bit,
+    // 8: a word of a key is above 1.
+    Key,
+    // 9: the noise bound, which is told, is half of a class's band or more.
+    Noise(u64),
+}
+
+impl Refusal {
+    // The number that a refused call returns.
+    pub fn number(self) -> u32
+        ensures { result ≡ Answers.refusal_number self }
+    {
+        match self {
+            Refusal::Degree => 1,
+            Refusal::Gadget => 2,
+            Refusal::ClassNumber => 3,
+            Refusal::Count => 4,
+            Refusal::Depth => 4,
+            Refusal::Position => 4,
+            Refusal::Length => 5,
+            Refusal::Amplitude => 6,
+            Refusal::Class => 7,
+            Refusal::Bit => 7,
+            Refusal::Key => 8,
+            Refusal::Noise(_) => 9,
+        }
+    }
+
+    // The noise bound that it reports.
+    pub fn bound(self) -> u64
+        ensures { result ≡ Answers.refusal_bound self }
+    {
+        match self {
+            Refusal::Noise(bound) => bound,
+            _ => 0,
+        }
+    }
+}
+
 // What an accepted call reports: its noise bound, and the number of its CMuxes ("gates").
-#[derive(Clone, Copy)]
+#[derive(Clone, Copy, Debug, PartialEq, Eq)]
 pub struct Ledger {
     pub bound: u64,
     pub gates: u64,
@@ -38,48 +100,39 @@ impl Ledger {
     }
 }
 
-#[derive(Clone, Copy)]
-pub enum Answer {
-    // With what it reports.
-    Accepted(Ledger),
-    // Refused, with the number.
-    Refused(u32),
-    // Refused for noise, with the bound.
-    Noisy(u64),
+// What a check gives.
+pub type Checked = Result<(), Refusal>;
+
+// What a call gives: what it reports, or why it refuses.
+pub type Answer = Result<Ledger, Refusal>;
+
+// The number that a call returns, or a check: 0 where it is accepted or passes.
+pub fn number<T: Drop>(answer: Result<T, Refusal>) -> u32
+    ensures { result ≡ Answers.number answer }
+{
+    match answer {
+        Ok(_) => 0,
+        Err(refusal) => refusal.number(),
+    }
 }
 
-impl Answer {
-    // The number that the call returns.
-    pub fn number(self) -> u32
-        ensures { result ≡ Answers.number self }
-    {
-        match self {
-            Answer::Accepted(_) => 0,
-            Answer::Refused(k) => k,
-            Answer::Noisy(_) => 9,
-        }
+// The noise bound that it reports.
+pub fn bound(answer: Answer) -> u64
+    ensures { result ≡ Answers.bound answer }
+{
+    match answer {
+        Ok(ledger) => ledger.bound,
+        Err(refusal) => refusal.bound(),
     }
+}
 
-    // The noise bound that it reports.
-    pub fn bound(self) -> u64
-        ensures { result ≡ Answers.bound self }
-    {
-        match self {
-            Answer::Accepted(ledger) => ledger.bound,
-            Answer::Refused(_) => 0,
-            Answer::Noisy(b) => b,
-        }
-    }
-
-    // The gates that it reports.
-    pub fn gates(self) -> u64
-        ensures { result ≡ Answers.gates self }
-    {
-        match self {
-            Answer::Accepted(ledger) => ledger.gates,
-            Answer::Refused(_) => 0,
-            Answer::Noisy(_) => 0,
-        }
+// The gates that it reports.
+pub fn gates(answer: Answer) -> u64
+    ensures { result ≡ Answers.gates answer }
+{
+    match answer {
+        Ok(ledger) => ledger.gates,
+        Err(_) => 0,
     }
 }
 
@@ -87,140 +140,127 @@ impl Answer {
 pub fn accepted() -> Answer
     ensures { result ≡ Answers.accepted }
 {
-    Answer::Accepted(Ledger { bound: 0, gates: 0 })
+    Ok(Ledger { bound: 0, gates: 0 })
 }
 
-// The earlier of two checks that refuses, or 0.
-pub fn first(a: u32, b: u32) -> u32
-    ensures { result ≡ Checks.first a b }
+// A check of one test.
+fn unless(passed: bool, refusal: Refusal) -> Checked
+    ensures { result ≡ Checks.unless passed refusal }
 {
-    if a != 0 { a } else { b }
-}
-
-// The number of a check whose test has failed, or 0.
-fn unless(passed: bool, number: u32) -> u32
-    ensures { result ≡ cond passed 0 number }
-{
-    if passed { 0 } else { number }
+    if passed { Ok(()) } else { Err(refusal) }
 }
 
 // 1: the degree.
-pub fn degree(n: u64) -> u32
+pub fn degree(n: u64) -> Checked
     ensures { result ≡ Checks.degree n }
 {
-    unless(ring::is_degree(n), 1)
+    unless(ring::is_degree(n), Refusal::Degree)
 }
 
 // 2: the gadget.
-pub fn gadget(g: u64, l: u64) -> u32
+pub fn gadget(g: u64, l: u64) -> Checked
     ensures { result ≡ Checks.gadget g l }
 {
-    unless(gadget::lawful(g, l), 2)
+    unless(gadget::lawful(g, l), Refusal::Gadget)
 }
 
 // Whether m is a number of classes.
 fn is_class_number(m: u64) -> bool
     ensures { result ≡ Checks.is_class_number m }
 {
-    if u64::count_ones(m) != 1 {
-        return false;
-    }
-    if m < 2 {
-        return false;
-    }
-    m <= 65536
+    m.count_ones() == 1 && 2 <= m && m <= 65536
 }
 
 // 3: the number of classes.
-pub fn class_number(m: u64) -> u32
+pub fn class_number(m: u64) -> Checked
     ensures { result ≡ Checks.class_number m }
 {
-    unless(is_class_number(m), 3)
+    unless(is_class_number(m), Refusal::ClassNumber)
 }
 
 // 4: the number of classes in an entry.
-pub fn count(most: u64, s: u64) -> u32
+pub fn count(most: u64, s: u64) -> Checked
     ensures { result ≡ Checks.count most s }
 {
-    if s < 1 {
-        return 4;
-    }
-    unless(s <= most, 4)
+    unless(1 <= s && s <= most, Refusal::Count)
 }
 
 // 4: the number of selectors.
-pub fn depth(most: u64, d: u64) -> u32
+pub fn depth(most: u64, d: u64) -> Checked
     ensures { result ≡ Checks.depth most d }
 {
-    unless(d <= most, 4)
+    unless(d <= most, Refusal::Depth)
 }
 
 // 4: the position of a coefficient.
-pub fn position(n: u64, p: u64) -> u32
+pub fn position(n: u64, p: u64) -> Checked
     ensures { result ≡ Checks.position n p }
 {
-    unless(p < n, 4)
+    unless(p < n, Refusal::Position)
+}
+
+// 1, 3 and 4: the numbers of a sample that hides s classes.
+pub fn sample_numbers(n: u64, m: u64, s: u64) -> Checked
+    ensures { result ≡ Checks.sample_numbers n m s }
+{
+    degree(n)?;
+    class_number(m)?;
+    count(n, s)
 }
 
 // 5: a length in bytes, against the exact one in words. It is divided, so that no number of words wraps.
-pub fn exact(length: usize, words: u64) -> u32
+pub fn exact(length: usize, words: u64) -> Checked
     ensures { result ≡ Checks.exact length words }
 {
     let bytes = length as u64;
-    if bytes % 4 != 0 {
-        return 5;
-    }
-    unless(bytes / 4 == words, 5)
+    unless(bytes % 4 == 0 && bytes / 4 == words, Refusal::Length)
 }
 
 // 6: an amplitude that is passed by value.
-pub fn amplitude(a: u64) -> u32
+pub fn amplitude(a: u64) -> Checked
     ensures { result ≡ Checks.amplitude a }
 {
-    unless(a <= 2147483648, 6)
+    unless(a <= 2147483648, Refusal::Amplitude)
 }
 
 // Whether each word of s is below the limit.
 fn all_below(s: &[u8], limit: u64) -> bool
     ensures { result ≡ Checks.all_below limit (words s.now) }
 {
-    let n = s.len() / 4;
-    let mut i = 0;
-    while i < n {
+    for i in 0..s.len() / 4 {
         if limit <= torus::word_at(s, i) as u64 {
             return false;
         }
-        i += 1;
     }
     true
 }
 
 // 6: a slice of amplitudes.
-pub fn amplitudes(s: &[u8]) -> u32
+pub fn amplitudes(s: &[u8]) -> Checked
     ensures { result ≡ Checks.amplitudes (words s.now) }
 {
-    unless(all_below(s, 2147483649), 6)
+    unless(all_below(s, 2147483649), Refusal::Amplitude)
 }
 
 // 7: a slice of classes.
-pub fn classes(m: u64, s: &[u8]) -> u32
+pub fn classes(m: u64, s: &[u8]) -> Checked
     ensures { result ≡ Checks.classes m (words s.now) }
 {
-    unless(all_below(s, m), 7)
+    unless(all_below(s, m), Refusal::Class)
 }
 
 // 7: a selector bit.
-pub fn bit(m: u64) -> u32
+pub fn bit(m: u64) -> Checked
     ensures { result ≡ Checks.bit m }
 {
-    unless(m <= 1, 7)
+    unless(m <= 1, Refusal::Bit)
 }
 
 // 8: the words of a key.
-pub fn key(s: &[u8]) -> u32
+pub fn key(s: &[u8]) -> Checked
     ensures { result ≡ Checks.key (words s.now) }
 {
-    unless(all_below(s, 2), 8)
+    unless(all_below(s, 2), Refusal::Key)
 }
 
 // 9: the noise bound, against half of a class's band; with the gates that are reported where it is accepted.
@@ -229,25 +269,19 @@ pub fn noise(m: u64, bound: u64, gates: u64) -> Answer
     ensures { result ≡ Answers.noise m bound gates }
 {
     if bound < 2147483648 / m {
-        Answer::Accepted(Ledger { bound, gates })
+        Ok(Ledger { bound, gates })
     } else {
-        Answer::Noisy(bound)
+        Err(Refusal::Noise(bound))
     }
 }
 
-// The greatest magnitude among the first n words of s.
-pub fn greatest_magnitude(s: &[u8], n: usize) -> u32
-    requires { 4 * n ≤ length s.now }
-    ensures { result ≡ Answers.greatest_magnitude (take n (words s.now)) }
+// The greatest magnitude among the words of s.
+pub fn greatest_magnitude(s: &[u8]) -> u32
+    ensures { result ≡ Answers.greatest_magnitude (words s.now) }
 {
     let mut most = 0;
-    let mut i = 0;
-    while i < n {
-        let w = torus::magnitude(torus::word_at(s, i));
-        if most < w {
-            most = w;
-        }
-        i += 1;
+    for i in 0..s.len() / 4 {
+        most = most.max(torus::magnitude(torus::word_at(s, i)));
     }
     most
 }

@@ -1,4 +1,5 @@
 pub mod SameLaws
+pub mod FoldLaws
 pub mod ShoupLaws
 pub mod StoredLaws
 pub mod Passes

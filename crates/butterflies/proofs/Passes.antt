@@ -1,6 +1,6 @@
 -- Laws of a pass of butterflies, and of a level of passes.
 -- Assumes nothing.
-use mathlib.Core.Path.{◌≡◌, refl, ap, sym, subst, ◌∙◌}
+use mathlib.Core.Path.{◌≡◌, refl, ap, sym, ◌∙◌}
 use mathlib.Core.List.{List}
 use mathlib.Core.Logic.{◌⊎◌, inl, inr, ◌≢◌}
 use Prim.Native.Nat.{ℕ, suc, ◌+◌, ◌*◌, ◌-◌, ◌<◌}
@@ -151,13 +151,9 @@ module _ (p : ℕ) (f g : ℕ → ℕ → ℕ → ℕ) (h j : ℕ) (a b c : List
     rest = λ i l. K.after i (omega arith) ∙ H.rest i (omega arith);
   }
 
--- One butterfly is the pass over a node of two elements, and two make that over a node of four.
-module _ (p : ℕ) (f g : ℕ → ℕ → ℕ) (s : ℕ) (a b : List ℕ) where
-  pub pair_pass : Butterfly p f g s (s + 1) a b → Pass p f g s 1 1 a b
-  pair_pass K = let e : s ≡ s + 0 = omega arith in
-      pass_step p f g s 1 0 a a b (pass_none p f g s 1 a) (omega arith) (subst (λ i. Butterfly p f g i (i + 1) a b) e K)
-
-  pub four_pass : (c : List ℕ) → Butterfly p f g s (s + 2) a b → Butterfly p f g (s + 1) (s + 1 + 2) b c → Pass p f g s 2 2 a c
-  four_pass c K L =
-      let e : s ≡ s + 0 = omega arith in
-      pass_step p f g s 2 1 a b c (pass_step p f g s 2 0 a a b (pass_none p f g s 2 a) (omega arith) (subst (λ i. Butterfly p f g i (i + 2) a b) e K)) (omega arith) L
+-- One node more of a level that a way makes, by the factor w.
+pub way_step : (low : ℕ → ℕ → ℕ → ℕ) (high : ℕ → ℕ → ℕ → ℕ → ℕ) (at : ℕ → ℕ) {p q w : ℕ} (h j : ℕ) (t a b c : List ℕ) → q ≡ p → w ≡ get_or t (at j) 0
+    → Level p (λ i. low (get_or t (at i) 0)) (λ i. high p (get_or t (at i) 0)) h j a b → Pass q (low w) (high q w) (j * (h + h)) h h b c
+    → Level p (λ i. low (get_or t (at i) 0)) (λ i. high p (get_or t (at i) 0)) h (j + 1) a c
+way_step low high at {p} h j t a b c e f H K =
+    level_step p (λ i. low (get_or t (at i) 0)) (λ i. high p (get_or t (at i) 0)) h j a b c H (rw (e, f) at K)

@@ -69,6 +69,11 @@ DownLevel p m h t = Level p (λ i. down_low (get_or t (m + i) 0)) (λ i. down_hi
 abbrev pub UpLevel : (p m h : ℕ) (t a b : List ℕ) → Type 0
 UpLevel p m h t = Level p (λ i. up_low) (λ i. up_high p (get_or t (m + (m - 1 - i)) 0)) h m
 
+-- The same of whichever way: low and high say what its butterfly makes by a factor, and turn m i which of the m factors node i takes.
+abbrev pub WayLevel : (low : ℕ → ℕ → ℕ → ℕ) (high : ℕ → ℕ → ℕ → ℕ → ℕ) (turn : ℕ → ℕ → ℕ) (p m h : ℕ) (t a b : List ℕ) → Type 0
+WayLevel low high turn p m h t =
+    Level p (λ i. low (get_or t (m + turn m i) 0)) (λ i. high p (get_or t (m + turn m i) 0)) h m
+
 -- Entries m to 2m - 1 of a table of factors and of that of their quotients.
 pub record Prepared (p m : ℕ) (t q : List ℕ) : Type 0 where
   pub long : m + m ≤ length t

@@ -9,7 +9,7 @@ use Rattle.torus.specs.Bytes.{words, bytes}
 use Rattle.gadget.specs.Digits.{precision}
 use Rattle.ring.specs.Polynomial.{Agree, coefficients, rotated}
 use Rattle.ring.proofs.Rotation.{rotated_high}
-use Rattle.answers.specs.Answers.{number, bound, ◌or_else◌}
+use Rattle.answers.specs.Answers.{number, bound}
 use Rattle.answers.specs.Checks.{all_below}
 use Rattle.trgsw.specs.Parameters as Parameters
 use Rattle.trgsw.specs.declared.Parameters.{Parameters}
@@ -152,13 +152,13 @@ alone_j A = record {
 }
 
 pub bound_of_pair : bound (lookup pair_j) ≡ 918504
-unfolding lookup ◌or_else◌ masks weight rotations charges largest sum External.charge precision words bytes ones all_below
+unfolding lookup masks weight rotations charges largest sum External.charge precision words bytes ones all_below
 bound_of_pair = refl
 
 pub bound_alone : bound (lookup (alone_j 300)) ≡ 300
-unfolding lookup ◌or_else◌ masks rotations charges largest sum words bytes ones all_below
+unfolding lookup masks rotations charges largest sum words bytes ones all_below
 bound_alone = refl
 
 pub alone_refused : (number (lookup (alone_j 134217728)) ≡ 9) × (bound (lookup (alone_j 134217728)) ≡ 134217728)
-unfolding lookup ◌or_else◌ masks rotations charges largest sum words bytes ones all_below
+unfolding lookup masks rotations charges largest sum words bytes ones all_below
 alone_refused = (refl, refl)

@@ -2,11 +2,12 @@
 -- Assumes nothing.
 use Rattle.std.proofs.Common.{◌≡◌, ℕ, ◌≤◌, List, [], ◌∷◌, sym, refl, ap, ◌∙◌, arith}
 use lib.Count.{ones}
+use Rattle.std.specs.Prelude.{Err}
 use Rattle.torus.specs.Sum.{sum, tabulate, joined}
 use Rattle.torus.specs.Bytes.{words, bytes}
-use Rattle.answers.specs.Answers.{number, bound, gates, ◌or_else◌}
+use Rattle.answers.specs.Answers.{number, bound, gates}
 use Rattle.answers.specs.Checks.{all_below}
-use Rattle.answers.specs.declared.Answer.TheVariants.{Refused}
+use Rattle.answers.specs.declared.Refusal.TheVariants as Refused
 use Rattle.tables.specs.declared.Packing.TheVariants.{Horizontal, Vertical}
 use Rattle.tables.specs.declared.Visibility.TheVariants.{Public}
 use Rattle.trees.specs.LookedUp.{largest, charges}
@@ -43,19 +44,19 @@ start = 5 ∷ 1 ∷ 16 ∷ 2 ∷ 16 ∷ 1 ∷ 0 ∷ []
 abbrev pub whole : List ℕ
 whole = 5 ∷ 1 ∷ 16 ∷ 2 ∷ 16 ∷ 1 ∷ 0 ∷ 1 ∷ 8 ∷ []
 
-pub start_refused : job_answer (bytes start) ≡ Refused 5
-unfolding job_answer file_refusal read_job file_packing rotations masks ◌or_else◌ words bytes ones joined tabulate
+pub start_refused : job_answer (bytes start) ≡ Err Refused.Length
+unfolding job_answer file_refusal read_job file_packing rotations masks words bytes ones joined tabulate
 start_refused = refl
 
 pub whole_accepted : (number (job_answer (bytes whole)) ≡ 0)
     × (bound (job_answer (bytes whole)) ≡ 0) × (gates (job_answer (bytes whole)) ≡ 0)
-unfolding job_answer file_refusal read_job file_packing rotations masks lookup ◌or_else◌ largest charges sum words bytes ones all_below joined tabulate
+unfolding job_answer file_refusal read_job file_packing rotations masks lookup largest charges sum words bytes ones all_below joined tabulate
 whole_accepted = (refl, refl, refl)
 
 -- Exercise 5.3. A file that begins as a job file does and has N = 3 is answered 1, whatever else it holds; and this is what is
 -- printed.
-pub three_refused : (file : List ℕ) → Begins file → (read_job file).numbers.scheme.N ≡ 3 → job_answer file ≡ Refused 1
-unfolding job_answer file_refusal ◌or_else◌ ones
+pub three_refused : (file : List ℕ) → Begins file → (read_job file).numbers.scheme.N ≡ 3 → job_answer file ≡ Err Refused.Degree
+unfolding job_answer file_refusal ones
 three_refused file begins three = rw (beginning_met file begins, three) refl
 
 pub three_printed : (file : List ℕ) → Begins file → (read_job file).numbers.scheme.N ≡ 3 → output file ≡ ascii "answer 1\nbound 0\n"
@@ -83,6 +84,6 @@ pub packed_by_depth : (file_packing 1 10 ≡ Horizontal) × (file_packing 1 11 �
 unfolding file_packing
 packed_by_depth = (refl, refl)
 
-pub eleven_refused : job_answer (bytes (5 ∷ 2 ∷ 8 ∷ 2 ∷ 16 ∷ 2 ∷ 11 ∷ [])) ≡ Refused 4
-unfolding job_answer file_refusal read_job file_packing ◌or_else◌ words bytes ones
+pub eleven_refused : job_answer (bytes (5 ∷ 2 ∷ 8 ∷ 2 ∷ 16 ∷ 2 ∷ 11 ∷ [])) ≡ Err Refused.Depth
+unfolding job_answer file_refusal read_job file_packing words bytes ones
 eleven_refused = refl

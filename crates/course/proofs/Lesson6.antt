@@ -1,14 +1,15 @@
--- Lesson 6, the calls for C: the exercises, each with its solution. The functions of exercises 6.4 and 6.7 are in src/lib.rt,
--- their proofs in proofs/equal_charges and proofs/negate_coefficient.
+-- Lesson 6, the calls for C: the exercises, each with its solution. The functions of exercises 6.4 and 6.7 are in src/lib.rt, the
+-- proof of the second in proofs/negate_coefficient; the check finds that of the first.
 -- Assumes nothing.
 use Rattle.std.proofs.Common.{◌≡◌, ℕ, ◌-◌, ◌*◌, ◌/◌, ◌^◌, ◌<◌, List, [], ◌∷◌, length, get_or, sym, refl, ap, ◌∙◌, subst, ap₂}
 use lib.Count.{ones}
+use Rattle.std.specs.Prelude.{Ok, Err}
 use Rattle.torus.specs.Bytes.{AreBytes, words, bytes}
 use Rattle.torus.proofs.Parts.{bytes_are}
 use Rattle.torus.proofs.Sums.{sum_cong, sum_const}
 use Rattle.answers.specs.Checks as Check
-use Rattle.answers.specs.Answers.{number, bound, gates, ◌or_else◌, noise, after}
-use Rattle.answers.specs.declared.Answer.TheVariants.{Accepted, Refused, Noisy}
+use Rattle.answers.specs.Answers.{Answer, number, bound, gates, noise, after}
+use Rattle.answers.specs.declared.Refusal.TheVariants as Refused
 use Rattle.answers.proofs.Laws.{before, went_on, class_number_met, depth_met, noise_held, after_written}
 use Rattle.trlwe.specs.Calls.{encrypt_classes, encrypt_classes_sample, decrypt_classes, decrypt_classes_classes}
 use Rattle.trlwe.proofs.Accepted.{encrypt_accepted}
@@ -29,13 +30,13 @@ use Rattle.lookup.proofs.Accepted.{Wellformed, lookup_noise}
 use Rattle.course.specs.Definitions.{negative, equal_charges, negate_coefficient, negate_coefficient_slice}
 
 -- Exercise 6.1. A call is refused for noise with the bound b: what do it and its two sisters return?
-pub noisy_returns : (b : ℕ) → (number (Noisy b) ≡ 9) × (bound (Noisy b) ≡ b) × (gates (Noisy b) ≡ 0)
+pub noisy_returns : (b : ℕ) → let noisy : Answer = Err (Refused.Noise b) in (number noisy ≡ 9) × (bound noisy ≡ b) × (gates noisy ≡ 0)
 noisy_returns b = (refl, refl, refl)
 
 -- Exercise 6.2. A refusal changes no slice: decryption with the degree 3 leaves the classes as they were, whatever the other
 -- arguments are.
 pub refused_keeps : (M s : ℕ) (key sample classes : List ℕ) → decrypt_classes_classes 3 M s key sample classes ≡ classes
-unfolding decrypt_classes_classes decrypt_classes ◌or_else◌ after ones
+unfolding decrypt_classes_classes decrypt_classes after ones
 refused_keeps M s key sample classes = refl
 
 -- Exercise 6.3. Three calls in a row: classes are encrypted, coefficient p is extracted, and the scalar sample is decrypted. If
@@ -58,16 +59,16 @@ encrypt_extract_decrypt N M s p key mask errors classes sample scalar class mb e
 
 -- Exercise 6.5. Compute what `equal_charges` answers for M = 16 and the charge 34111488, with three selectors and with four;
 -- and for M = 3 and eleven selectors, where two checks refuse. Then show that what it accepts is below the limit.
-pub three_accepted : equal_charges 16 3 34111488 ≡ Accepted (record { bound = 102334464; gates = 7 })
-unfolding equal_charges ◌or_else◌ ones
+pub three_accepted : equal_charges 16 3 34111488 ≡ Ok (record { bound = 102334464; gates = 7 })
+unfolding equal_charges ones
 three_accepted = refl
 
-pub four_refused : equal_charges 16 4 34111488 ≡ Noisy 136445952
-unfolding equal_charges ◌or_else◌ ones
+pub four_refused : equal_charges 16 4 34111488 ≡ Err (Refused.Noise 136445952)
+unfolding equal_charges ones
 four_refused = refl
 
-pub first_refusal : equal_charges 3 11 34111488 ≡ Refused 3
-unfolding equal_charges ◌or_else◌ ones
+pub first_refusal : equal_charges 3 11 34111488 ≡ Err Refused.ClassNumber
+unfolding equal_charges ones
 first_refusal = refl
 
 pub equal_accepted : (M d c : ℕ) → number (equal_charges M d c) ≡ 0 → d * c < 2 ^ 31 / M
@@ -95,10 +96,10 @@ lookup_equal j A horizontal public ok same =
 -- p in the slice, or refuses and changes nothing. Its contract has no premise. Compute first what `negate_coefficient` says of
 -- the words 5 and 7: with p = 1, and with p = 2.
 pub negated : negate_coefficient_slice 2 1 (bytes (5 ∷ 7 ∷ [])) ≡ bytes (5 ∷ negative 7 ∷ [])
-unfolding negate_coefficient_slice negate_coefficient ◌or_else◌ after words bytes ones
+unfolding negate_coefficient_slice negate_coefficient after words bytes ones
 negated = refl
 
-pub position_refused : (negate_coefficient 2 2 (bytes (5 ∷ 7 ∷ [])) ≡ Refused 4)
+pub position_refused : (negate_coefficient 2 2 (bytes (5 ∷ 7 ∷ [])) ≡ Err Refused.Position)
     × (negate_coefficient_slice 2 2 (bytes (5 ∷ 7 ∷ [])) ≡ bytes (5 ∷ 7 ∷ []))
-unfolding negate_coefficient_slice negate_coefficient ◌or_else◌ after words bytes ones
+unfolding negate_coefficient_slice negate_coefficient after words bytes ones
 position_refused = (refl, refl)

@@ -5,9 +5,9 @@ use Rattle.torus.specs.Word.{sub}
 use Rattle.torus.specs.Bytes.{words, bytes}
 use Rattle.gadget.specs.Digits.{step, rounded}
 use Rattle.ring.specs.Polynomial.{coefficients, inside, passed}
-use Rattle.answers.specs.Answers.{◌or_else◌, accepted, noise, after}
+use Rattle.answers.specs.Answers.{Answer, accepted, noise, after}
 use Rattle.answers.specs.Checks as Check
-use Rattle.answers.specs.declared.Answer.{Answer}
+use Rattle.answers.specs.Checks.{◌or_else◌}
 
 -- ---- lesson 1
 

@@ -1,16 +1,25 @@
 -- What an accepted call has, and every byte that it leaves.
 -- Assumes nothing.
-use mathlib.Core.Path.{◌≡◌, ap, sym, ◌∙◌}
+use mathlib.Core.Path.{◌≡◌, refl, ap, sym, ◌∙◌}
+use mathlib.Core.Bool.{false}
 use mathlib.Core.List.{List}
 use Prim.Native.Nat.{ℕ, ◌*◌, ◌≤◌, ◌<◌}
+use native.Mathlib.Omega.{arith}
+use lib.Dec.{eqb}
 use lib.ListN.{length, get_or}
+use borrow.Author.Tests.{ne_eqb}
+use Rattle.std.specs.Prelude.{Err}
 use Rattle.torus.specs.Bytes.{words, bytes}
 use Rattle.torus.proofs.Parts.{bytes_words}
 use Rattle.gadget.specs.Digits.{Lawful, digit_polynomial}
 use Rattle.ring.specs.Polynomial.{Degree, add_product}
+use Rattle.answers.specs.declared.Refusal.{Refusal}
+use Rattle.answers.specs.Answers as Answers
+use Rattle.answers.specs.Answers.{refusal_number}
 use Rattle.answers.specs.Checks as Check
-use Rattle.answers.proofs.Laws.{first_none, degree_held, gadget_held, count_held, exact_held}
-use Rattle.digit_row.specs.Call.{number, digit_bytes, sum_bytes}
+use Rattle.answers.specs.Checks.{passed}
+use Rattle.answers.proofs.Laws.{before, number_passed, number_some, degree_held, gadget_held, count_held, exact_held}
+use Rattle.digit_row.specs.Call.{checks, number, digit_bytes, sum_bytes, Answered}
 
 pub record Fit (N g L j x row digits out : ℕ) : Type 0 where
   pub degree : Degree N
@@ -23,14 +32,14 @@ pub record Fit (N g L j x row digits out : ℕ) : Type 0 where
   pub out_length : out ≡ 4 * N
 
 pub accepted : (N g L j x row digits out : ℕ) → number N g L j x row digits out ≡ 0 → Fit N g L j x row digits out
-unfolding number
+unfolding number checks
 accepted N g L j x row digits out e =
-    let degree = first_none (Check.degree N) _ e in
-    let gadget = first_none (Check.gadget g L) _ degree.1 in
-    let count = first_none (Check.count L j) _ gadget.1 in
-    let x_length = first_none (Check.exact x N) _ count.1 in
-    let row_length = first_none (Check.exact row N) _ x_length.1 in
-    let written = first_none (Check.exact digits N) (Check.exact out N) row_length.1 in
+    let degree = before (Check.degree N) _ e in
+    let gadget = before (Check.gadget g L) _ degree.1 in
+    let count = before (Check.count L j) _ gadget.1 in
+    let x_length = before (Check.exact x N) _ count.1 in
+    let row_length = before (Check.exact row N) _ x_length.1 in
+    let digits_length = before (Check.exact digits N) (Check.exact out N) row_length.1 in
     record {
       degree = degree_held N degree.0;
       lawful = gadget_held g L gadget.0;
@@ -38,9 +47,25 @@ accepted N g L j x row digits out e =
       within = (count_held L j count.0).1;
       x_length = exact_held x N x_length.0;
       row_length = exact_held row N row_length.0;
-      digits_length = exact_held digits N written.0;
-      out_length = exact_held out N written.1;
+      digits_length = exact_held digits N digits_length.0;
+      out_length = exact_held out N (number_passed (Check.exact out N) digits_length.1);
     }
+
+-- Checks that pass, and one that refuses.
+pub passed_number : (N g L j x row digits out : ℕ) → passed ≡ checks N g L j x row digits out → number N g L j x row digits out ≡ 0
+unfolding number
+passed_number N g L j x row digits out e = ap Answers.number (sym e)
+
+pub fitting : (N g L j x row digits out : ℕ) → passed ≡ checks N g L j x row digits out → Fit N g L j x row digits out
+fitting N g L j x row digits out e = accepted N g L j x row digits out (passed_number N g L j x row digits out e)
+
+pub refused : (N g L j : ℕ) (x row digits out : List ℕ) (r : Refusal) → Err r ≡ checks N g L j (length x) (length row) (length digits) (length out)
+    → Answered N g L j x row digits out (refusal_number r) digits out
+unfolding number
+refused N g L j x row digits out r e =
+    let some : 1 ≤ refusal_number r = number_some r in
+    let test : eqb (refusal_number r) 0 ≡ false = ne_eqb (refusal_number r) 0 (omega arith) in
+    record { number_is = ap Answers.number e; digits_are = rw test refl; out_is = rw test refl }
 
 -- Every byte of the digits, and of the accumulator.
 module _ (N g L j : ℕ) (x : List ℕ) (digits : List ℕ) (e : words digits ≡ digit_polynomial N g L j (words x)) where

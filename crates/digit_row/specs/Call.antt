@@ -5,17 +5,23 @@ use Rattle.torus.specs.Bytes.{words, bytes}
 use Rattle.gadget.specs.Digits.{digit_polynomial}
 use Rattle.ring.specs.Polynomial.{add_product}
 use Rattle.answers.specs.Checks as Check
+use Rattle.answers.specs.Checks.{Checked, ◌or_else◌}
+use Rattle.answers.specs.Answers as Answers
 
--- 0 if all fits, else by the first fault: 1 the degree, 2 the gadget, 4 the number j of the digit, which is from 1 to L, 5 a length
--- in bytes.
+-- The checks: 1 the degree, 2 the gadget, 4 the number j of the digit, which is from 1 to L, 5 a length in bytes.
+unfoldable pub checks : (N g L j x row digits out : ℕ) → Checked
+checks N g L j x row digits out =
+    Check.degree N
+    or_else Check.gadget g L
+    or_else Check.count L j
+    or_else Check.exact x N
+    or_else Check.exact row N
+    or_else Check.exact digits N
+    or_else Check.exact out N
+
+-- 0 if all fits, else the number of the first fault.
 unfoldable pub number : (N g L j x row digits out : ℕ) → ℕ
-number N g L j x row digits out =
-    Check.first (Check.degree N)
-    (Check.first (Check.gadget g L)
-    (Check.first (Check.count L j)
-    (Check.first (Check.exact x N)
-    (Check.first (Check.exact row N)
-    (Check.first (Check.exact digits N) (Check.exact out N))))))
+number N g L j x row digits out = Answers.number (checks N g L j x row digits out)
 
 -- The bytes of the digits, and those of the accumulator, after an accepted call.
 unfoldable pub digit_bytes : (N g L j : ℕ) → List ℕ → List ℕ

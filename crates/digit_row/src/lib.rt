@@ -5,20 +5,35 @@
 ghost use Rattle.std.specs.Prelude.{◌≡◌};
 ghost use Rattle.digit_row.specs.Call as C;
 
-// 0 if all fits, else the number of the first fault. x, row, digits and out are lengths in bytes.
-fn refusal(n: u64, g: u64, l: u64, j: u64, x: usize, row: usize, digits: usize, out: usize) -> u32
-    ensures { result ≡ C.number n g l j x row digits out }
+use answers::Checked;
+use gadget::Gadget;
+use ring::Pair;
+
+// Passes if all fits, else says the first fault. x, row, digits and out are lengths in bytes.
+#[tactic(auto, unfolding(crate::specs::Call::checks))]
+fn checks(
+    n: u64,
+    g: u64,
+    l: u64,
+    j: u64,
+    x: usize,
+    row: usize,
+    digits: usize,
+    out: usize,
+) -> Checked
+    ensures { result ≡ C.checks n g l j x row digits out }
 {
-    let numbers = answers::first(
-        answers::degree(n),
-        answers::first(answers::gadget(g, l), answers::count(l, j)),
-    );
-    let read = answers::first(answers::exact(x, n), answers::exact(row, n));
-    let written = answers::first(answers::exact(digits, n), answers::exact(out, n));
-    answers::first(numbers, answers::first(read, written))
+    answers::degree(n)?;
+    answers::gadget(g, l)?;
+    answers::count(l, j)?;
+    answers::exact(x, n)?;
+    answers::exact(row, n)?;
+    answers::exact(digits, n)?;
+    answers::exact(out, n)
 }
 
-// To out, digit polynomial j of x times row, modulo X^n + 1. The digit polynomial is left in digits.
+// To out, digit polynomial j of x times row, modulo X^n + 1. The digit polynomial is left in digits. For C it takes its arguments one by
+// one, and returns a number.
 #[unsafe(no_mangle)]
 pub extern "C" fn add_digit_row(
     n: u64,
@@ -34,12 +49,19 @@ pub extern "C" fn add_digit_row(
         x.now row.now digits.old out.old
         result digits.new out.new }
 {
-    let fault = refusal(n, g, l, j, x.len(), row.len(), digits.len(), out.len());
-    if fault != 0 {
-        return fault;
+    if let Err(refusal) = checks(n, g, l, j, x.len(), row.len(), digits.len(), out.len()) {
+        return refusal.number();
     }
-    let degree = n as usize;
-    gadget::write_digits(digits, x, degree, g as u32, l as u32, j as u32);
-    schoolbook::add_sparse_product(out, digits, row, degree);
+    let gadget = Gadget {
+        g: g as u32,
+        l: l as u32,
+    };
+    gadget.write_digits(digits, x, j as u32);
+    let pair = Pair {
+        small: digits,
+        row,
+        n: n as usize,
+    };
+    schoolbook::add_sparse_product(out, pair);
     0
 }

@@ -1,7 +1,7 @@
 // The signed gadget digits of a word: base 2^g, l digits, digit 1 first, by shifts by g and masks.
 #![tactic(auto)]
 
-ghost use Rattle.std.specs.Prelude.{◌≡◌, ◌++◌, ◌-◌, ◌*◌, ◌%◌, ◌^◌, ◌≤◌, ◌<◌, length, replicate};
+ghost use Rattle.std.specs.Prelude.{◌≡◌, ◌++◌, ◌-◌, ◌*◌, ◌/◌, ◌%◌, ◌^◌, ◌≤◌, ◌<◌, length, replicate};
 ghost use Rattle.torus.specs.Word as W;
 ghost use Rattle.torus.specs.Bytes.{words};
 ghost use Rattle.gadget.specs.Digits as D;
@@ -10,22 +10,10 @@ ghost use Rattle.gadget.specs.Digits as D;
 pub fn lawful(g: u64, l: u64) -> bool
     ensures { result ≡ D.is_lawful g l }
 {
-    if g == 0 {
-        return false;
-    }
-    if 16 < g {
-        return false;
-    }
-    if l == 0 {
-        return false;
-    }
-    if 32 < l {
-        return false;
-    }
-    g * l <= 32
+    1 <= g && g <= 16 && 1 <= l && l <= 32 && g * l <= 32
 }
 
-// 2^k.
+// 2^k: a shift, whose bound is stated once.
 fn pow2(k: u32) -> u32
     requires { k < 32 }
     ensures { result ≡ 2 ^ k }
@@ -33,7 +21,8 @@ fn pow2(k: u32) -> u32
     1 << k
 }
 
-// Half of the base.
+// Half of the base. This, step and cut ask of a base what they need, which is less than a Gadget tells of it: callers that have no
+// number of digits have these.
 pub fn half(g: u32) -> u32
     requires { (1 ≤ g) × (g ≤ 16) }
     ensures { result ≡ D.half g }
@@ -47,32 +36,6 @@ pub fn step(g: u32, j: u32) -> u32
     ensures { result ≡ D.step g j }
 {
     pow2(32 - g * j)
-}
-
-// E: half of the last step, or 0 where the last step is 1.
-pub fn precision(g: u32, l: u32) -> u32
-    requires { D.Lawful g l }
-    ensures { result ≡ D.precision g l }
-{
-    if g * l == 32 {
-        return 0;
-    }
-    pow2(31 - g * l)
-}
-
-// What is added to a word before its digits are cut out of it: E, to round, and half of the base at each place.
-pub fn offset(g: u32, l: u32) -> u32
-    requires { D.Lawful g l }
-    ensures { result ≡ D.offset g l }
-{
-    let half = half(g);
-    let mut o = precision(g, l);
-    let mut j: u32 = 0;
-    while j < l {
-        j += 1;
-        o += half << (32 - g * j);
-    }
-    o
 }
 
 // The last place of q as a signed digit: its g low bits, less half of the base.
@@ -93,34 +56,58 @@ pub fn cut(t: u32, g: u32, j: u32) -> u32
     low(t >> (32 - g * j), g)
 }
 
-// All digits of w, digit 1 first, and zeros after them. The last digit is cut off first, then the word is shifted by g. No product calls
-// this: they take one digit of every word, by write_digits. It is how a lesson or a table of vectors reads a word.
-pub fn decompose(w: u32, g: u32, l: u32) -> [u32; 32]
-    requires { D.Lawful g l }
-    ensures { result ≡ D.digits g l w ++ replicate (32 - l) 0 }
-{
-    let mut out = [0u32; 32];
-    let mut q = torus::add(w, offset(g, l)) >> (32 - g * l);
-    let mut j: usize = l as usize;
-    while 0 < j {
-        j -= 1;
-        out[j] = low(q, g);
-        q = q >> g;
-    }
-    out
+// A gadget, of base 2^g and l digits, for which a word has room. In the definitions l is L.
+#[derive(Clone, Copy)]
+pub struct Gadget {
+    pub g: u32,
+    pub l: u32,
+    pub ghost lawful: { D.Lawful g l },
 }
 
-// The n words of out become the digit polynomial of x: digit j of each of its n words.
-pub fn write_digits(out: &mut [u8], x: &[u8], n: usize, g: u32, l: u32, j: u32)
-    requires { D.Lawful g l × (1 ≤ j) × (j ≤ l)
-        × (length out.old ≡ 4 * n) × (length x.now ≡ 4 * n) }
-    ensures { words out.new ≡ D.digit_polynomial n g l j (words x.now) }
-{
-    let o = offset(g, l);
-    let mut i = 0;
-    while i < n {
-        let t = torus::add(torus::word_at(x, i), o);
-        torus::put_word(out, i, cut(t, g, j));
-        i += 1;
+impl Gadget {
+    // E: half of the last step, or 0 where the last step is 1.
+    pub fn precision(self) -> u32
+        ensures { result ≡ D.precision self.g self.l }
+    {
+        let width = self.g * self.l;
+        if width == 32 { 0 } else { pow2(31 - width) }
+    }
+
+    // What is added to a word before its digits are cut out of it: E, to round, and half of the base at each place.
+    pub fn offset(self) -> u32
+        ensures { result ≡ D.offset self.g self.l }
+    {
+        let half = half(self.g);
+        let mut o = self.precision();
+        for i in 0..self.l {
+            o += half << (32 - self.g * (i + 1));
+        }
+        o
+    }
+
+    // All digits of w, digit 1 first, and zeros after them. The last digit is cut off first, then the word is shifted by g. No product
+    // calls this: they take one digit of every word, by write_digits. It is how a lesson or a table of vectors reads a word.
+    pub fn decompose(self, w: u32) -> [u32; 32]
+        ensures { result ≡ D.digits self.g self.l w ++ replicate (32 - self.l) 0 }
+    {
+        let mut out = [0u32; 32];
+        let mut q = torus::add(w, self.offset()) >> (32 - self.g * self.l);
+        for i in (0..self.l as usize).rev() {
+            out[i] = low(q, self.g);
+            q >>= self.g;
+        }
+        out
+    }
+
+    // The words of out become the digit polynomial of x: digit j of each of its words.
+    pub fn write_digits(self, out: &mut [u8], x: &[u8], j: u32)
+        requires { (1 ≤ j) × (j ≤ self.l) × (length x.now ≡ length out.old) }
+        ensures { words out.new ≡ D.digit_polynomial (length out.old / 4) self.g self.l j (words x.now) }
+    {
+        let o = self.offset();
+        for i in 0..out.len() / 4 {
+            let t = torus::add(torus::word_at(x, i), o);
+            torus::put_word(out, i, cut(t, self.g, j));
+        }
     }
 }

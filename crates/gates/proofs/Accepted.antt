@@ -1,12 +1,13 @@
 -- What holds of the input of an accepted external product and of an accepted CMux, and that a call with such input is accepted.
 -- Assumes nothing.
 use mathlib.Core.Path.{◌≡◌, ap, sym, ◌∙◌}
-use Prim.Native.Nat.{ℕ, ◌+◌, ◌*◌, ◌^◌, ◌≤◌, max}
+use Prim.Native.Nat.{◌+◌, ◌*◌, ◌^◌, ◌≤◌, max}
 use lib.ListN.{length}
+use Rattle.std.specs.Prelude.{Ok}
+use Rattle.answers.specs.Checks.{◌or_else◌}
 use Rattle.answers.specs.Checks as Check
-use Rattle.answers.specs.Answers.{◌or_else◌, number}
-use Rattle.answers.specs.declared.Answer.TheVariants.{Accepted}
-use Rattle.answers.proofs.Laws.{before, went_on, first_or_else, triple_or_else, first_none, first_met, exact_held, exact_met, amplitude_met}
+use Rattle.answers.specs.Answers.{number}
+use Rattle.answers.proofs.Laws.{or_else_assoc, before, went_on, both_passed, both_pass, exact_held, exact_met, amplitude_met}
 use Rattle.trgsw.specs.declared.Parameters.{Parameters}
 use Rattle.trgsw.specs.Parameters.{LawfulScheme, parameters, scheme_refusal, sample_size, block_size}
 use Rattle.trgsw.specs.External.{charge}
@@ -31,22 +32,17 @@ module _ (c : ProductInput) where
   -- The rows of the call's answer, taken together as the code takes them.
   pub product_checks : (scheme_refusal c.scheme or_else product_lengths product_set c.block c.sample c.out
       or_else product_amplitudes c.amplitude c.sample_amplitude
-      or_else Accepted (record { bound = charge product_set c.amplitude + c.sample_amplitude; gates = 0 })) ≡ external_product c
+      or_else Ok (record { bound = charge product_set c.amplitude + c.sample_amplitude; gates = 0 })) ≡ external_product c
   unfolding external_product
-  product_checks =
-      ap (λ a. scheme_refusal c.scheme or_else product_lengths product_set c.block c.sample c.out or_else a)
-      (first_or_else (Check.amplitude c.amplitude) (Check.amplitude c.sample_amplitude) _)
-      ∙ ap (λ a. scheme_refusal c.scheme or_else a)
-      (triple_or_else (Check.exact (length c.block) (block_size product_set)) (Check.exact (length c.sample) (sample_size product_set))
-      (Check.exact (length c.out) (sample_size product_set)) _)
+  product_checks = simp or_else_assoc
 
   pub external_accepted : number (external_product c) ≡ 0 → Multipliable c
   external_accepted e =
       let told = before (scheme_refusal c.scheme) _ (ap number product_checks ∙ e) in
       let fit = before (product_lengths product_set c.block c.sample c.out) _ told.1 in
       let small = two_amplitudes c.amplitude c.sample_amplitude (before (product_amplitudes c.amplitude c.sample_amplitude) _ fit.1).0 in
-      let block = first_none (Check.exact (length c.block) (block_size product_set)) _ fit.0 in
-      let samples = first_none (Check.exact (length c.sample) (sample_size product_set)) (Check.exact (length c.out) (sample_size product_set)) block.1 in
+      let block = both_passed (Check.exact (length c.block) (block_size product_set)) _ fit.0 in
+      let samples = both_passed (Check.exact (length c.sample) (sample_size product_set)) (Check.exact (length c.out) (sample_size product_set)) block.1 in
       record {
         scheme = scheme_held c.scheme told.0;
         block_length = exact_held _ _ block.0;
@@ -57,12 +53,12 @@ module _ (c : ProductInput) where
       }
 
   pub external_accepts : Multipliable c
-      → external_product c ≡ Accepted (record { bound = charge product_set c.amplitude + c.sample_amplitude; gates = 0 })
+      → external_product c ≡ Ok (record { bound = charge product_set c.amplitude + c.sample_amplitude; gates = 0 })
   external_accepts ok =
       sym product_checks
       ∙ went_on _ _ (scheme_met c.scheme ok.scheme)
-      ∙ went_on _ _ (first_met _ _ (exact_met _ _ ok.block_length) (first_met _ _ (exact_met _ _ ok.sample_length) (exact_met _ _ ok.out_length)))
-      ∙ went_on _ _ (first_met _ _ (amplitude_met c.amplitude ok.amplitude) (amplitude_met c.sample_amplitude ok.sample_amplitude))
+      ∙ went_on _ _ (both_pass _ _ (exact_met _ _ ok.block_length) (both_pass _ _ (exact_met _ _ ok.sample_length) (exact_met _ _ ok.out_length)))
+      ∙ went_on _ _ (both_pass _ _ (amplitude_met c.amplitude ok.amplitude) (amplitude_met c.sample_amplitude ok.sample_amplitude))
 
 -- ---- the CMux
 
@@ -82,16 +78,9 @@ module _ (c : CMuxInput) where
 
   pub cmux_checks : (scheme_refusal c.scheme or_else cmux_lengths cmux_set c.block c.sample₀ c.sample₁ c.out
       or_else cmux_amplitudes c.amplitude c.amplitude₀ c.amplitude₁
-      or_else Accepted (record { bound = max c.amplitude₀ c.amplitude₁ + charge cmux_set c.amplitude; gates = 1 })) ≡ cmux c
+      or_else Ok (record { bound = max c.amplitude₀ c.amplitude₁ + charge cmux_set c.amplitude; gates = 1 })) ≡ cmux c
   unfolding cmux
-  cmux_checks =
-      let block : ℕ = Check.exact (length c.block) (block_size cmux_set) in
-      ap (λ a. scheme_refusal c.scheme or_else cmux_lengths cmux_set c.block c.sample₀ c.sample₁ c.out or_else a)
-      (triple_or_else (Check.amplitude c.amplitude) (Check.amplitude c.amplitude₀) (Check.amplitude c.amplitude₁) _)
-      ∙ ap (λ a. scheme_refusal c.scheme or_else a)
-      (first_or_else block _ _ ∙ ap (λ a. block or_else a)
-      (triple_or_else (Check.exact (length c.sample₀) (sample_size cmux_set)) (Check.exact (length c.sample₁) (sample_size cmux_set))
-      (Check.exact (length c.out) (sample_size cmux_set)) _))
+  cmux_checks = simp or_else_assoc
 
   pub cmux_accepted : number (cmux c) ≡ 0 → Pickable c
   cmux_accepted e =
@@ -99,9 +88,9 @@ module _ (c : CMuxInput) where
       let fit = before (cmux_lengths cmux_set c.block c.sample₀ c.sample₁ c.out) _ told.1 in
       let small = three_amplitudes c.amplitude c.amplitude₀ c.amplitude₁
       (before (cmux_amplitudes c.amplitude c.amplitude₀ c.amplitude₁) _ fit.1).0 in
-      let block = first_none (Check.exact (length c.block) (block_size cmux_set)) _ fit.0 in
-      let first = first_none (Check.exact (length c.sample₀) (sample_size cmux_set)) _ block.1 in
-      let others = first_none (Check.exact (length c.sample₁) (sample_size cmux_set)) (Check.exact (length c.out) (sample_size cmux_set)) first.1 in
+      let block = both_passed (Check.exact (length c.block) (block_size cmux_set)) _ fit.0 in
+      let first = both_passed (Check.exact (length c.sample₀) (sample_size cmux_set)) _ block.1 in
+      let others = both_passed (Check.exact (length c.sample₁) (sample_size cmux_set)) (Check.exact (length c.out) (sample_size cmux_set)) first.1 in
       record {
         scheme = scheme_held c.scheme told.0;
         block_length = exact_held _ _ block.0;
@@ -114,11 +103,11 @@ module _ (c : CMuxInput) where
       }
 
   pub cmux_accepts : Pickable c
-      → cmux c ≡ Accepted (record { bound = max c.amplitude₀ c.amplitude₁ + charge cmux_set c.amplitude; gates = 1 })
+      → cmux c ≡ Ok (record { bound = max c.amplitude₀ c.amplitude₁ + charge cmux_set c.amplitude; gates = 1 })
   cmux_accepts ok =
       sym cmux_checks
       ∙ went_on _ _ (scheme_met c.scheme ok.scheme)
-      ∙ went_on _ _ (first_met _ _ (exact_met _ _ ok.block_length) (first_met _ _ (exact_met _ _ ok.sample₀_length)
-      (first_met _ _ (exact_met _ _ ok.sample₁_length) (exact_met _ _ ok.out_length))))
-      ∙ went_on _ _ (first_met _ _ (amplitude_met c.amplitude ok.amplitude)
-      (first_met _ _ (amplitude_met c.amplitude₀ ok.amplitude₀) (amplitude_met c.amplitude₁ ok.amplitude₁)))
+      ∙ went_on _ _ (both_pass _ _ (exact_met _ _ ok.block_length) (both_pass _ _ (exact_met _ _ ok.sample₀_length)
+      (both_pass _ _ (exact_met _ _ ok.sample₁_length) (exact_met _ _ ok.out_length))))
+      ∙ went_on _ _ (both_pass _ _ (amplitude_met c.amplitude ok.amplitude)
+      (both_pass _ _ (amplitude_met c.amplitude₀ ok.amplitude₀) (amplitude_met c.amplitude₁ ok.amplitude₁)))

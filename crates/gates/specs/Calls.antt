@@ -2,15 +2,16 @@
 -- slice that it writes. Each answer has a line for each row of document 01's table of returned numbers that applies; those of the parameter
 -- set stand together.
 -- Assumes nothing.
-use Rattle.std.specs.Prelude.{List, ℕ, ◌+◌, max, length}
+use Rattle.std.specs.Prelude.{Ok, List, ℕ, ◌+◌, max, length}
 use Rattle.torus.specs.Bytes.{words, bytes}
+use Rattle.answers.specs.Checks.{◌or_else◌}
 use Rattle.answers.specs.Checks as Check
-use Rattle.answers.specs.Answers.{◌or_else◌, after}
-use Rattle.answers.specs.declared.Answer.{Answer}
-use Rattle.answers.specs.declared.Answer.TheVariants.{Accepted}
+use Rattle.answers.specs.Answers.{Answer, after}
 use Rattle.trgsw.specs.declared.Scheme.{Scheme}
 use Rattle.trgsw.specs.Parameters.{parameters, scheme_refusal, sample_size, block_size}
 use Rattle.trgsw.specs.External.{external_sample, cmux_sample, charge}
+use Rattle.gates.specs.declared.external.Lent as Product
+use Rattle.gates.specs.declared.cmux.Lent as CMux
 
 -- The input of one external product: what it is told, the declared amplitudes of the block and of the sample, and its slices as lists of bytes,
 -- as they are lent. It writes the last.
@@ -22,6 +23,17 @@ pub record ProductInput : Type 0 where
   pub sample : List ℕ
   pub out : List ℕ
 
+-- That of a call that is lent these.
+abbrev pub product_of : (lent : Product.Lent) (out : List ℕ) → ProductInput
+product_of lent out = record {
+  scheme = lent.scheme;
+  amplitude = lent.amplitude;
+  sample_amplitude = lent.sample_amplitude;
+  block = lent.block.now;
+  sample = lent.sample.now;
+  out = out;
+}
+
 -- "The external product reports the charge plus the input's declared amplitude."
 unfoldable pub external_product : ProductInput → Answer
 external_product c =
@@ -30,7 +42,7 @@ external_product c =
     or_else Check.exact (length c.block) (block_size p) or_else Check.exact (length c.sample) (sample_size p)
     or_else Check.exact (length c.out) (sample_size p)
     or_else Check.amplitude c.amplitude or_else Check.amplitude c.sample_amplitude
-    or_else Accepted (record { bound = charge p c.amplitude + c.sample_amplitude; gates = 0 })
+    or_else Ok (record { bound = charge p c.amplitude + c.sample_amplitude; gates = 0 })
 
 -- What it leaves in the slice of the result.
 unfoldable pub external_product_out : ProductInput → List ℕ
@@ -48,6 +60,18 @@ pub record CMuxInput : Type 0 where
   pub sample₁ : List ℕ
   pub out : List ℕ
 
+abbrev pub cmux_of : (lent : CMux.Lent) (out : List ℕ) → CMuxInput
+cmux_of lent out = record {
+  scheme = lent.scheme;
+  amplitude = lent.amplitude;
+  amplitude₀ = lent.amplitude0;
+  amplitude₁ = lent.amplitude1;
+  block = lent.block.now;
+  sample₀ = lent.sample0.now;
+  sample₁ = lent.sample1.now;
+  out = out;
+}
+
 -- "The gate reports max(A0, A1) of the declared amplitudes plus its charge, and 1 as gates."
 unfoldable pub cmux : CMuxInput → Answer
 cmux c =
@@ -56,7 +80,7 @@ cmux c =
     or_else Check.exact (length c.block) (block_size p) or_else Check.exact (length c.sample₀) (sample_size p)
     or_else Check.exact (length c.sample₁) (sample_size p) or_else Check.exact (length c.out) (sample_size p)
     or_else Check.amplitude c.amplitude or_else Check.amplitude c.amplitude₀ or_else Check.amplitude c.amplitude₁
-    or_else Accepted (record { bound = max c.amplitude₀ c.amplitude₁ + charge p c.amplitude; gates = 1 })
+    or_else Ok (record { bound = max c.amplitude₀ c.amplitude₁ + charge p c.amplitude; gates = 1 })
 
 -- What it leaves in the slice of the result.
 unfoldable pub cmux_out : CMuxInput → List ℕ

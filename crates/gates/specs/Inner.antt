@@ -3,29 +3,28 @@
 use Rattle.std.specs.Prelude.{◌≡◌, List, ℕ, ◌*◌, length}
 use Rattle.gadget.specs.Digits.{Lawful}
 use Rattle.ring.specs.Polynomial.{Degree}
+use Rattle.answers.specs.Checks.{Checked, ◌or_else◌}
 use Rattle.answers.specs.Checks as Check
 use Rattle.trgsw.specs.declared.Parameters.{Parameters}
 use Rattle.trgsw.specs.Parameters.{sample_size, block_size}
 
--- Refusal 5 of the slices of an external product, or 0,
-abbrev pub product_lengths : (p : Parameters) (block sample out : List ℕ) → ℕ
+-- Refusal 5 of the slices of an external product,
+abbrev pub product_lengths : (p : Parameters) (block sample out : List ℕ) → Checked
 product_lengths p block sample out =
-    Check.first (Check.exact (length block) (block_size p))
-    (Check.first (Check.exact (length sample) (sample_size p)) (Check.exact (length out) (sample_size p)))
+    Check.exact (length block) (block_size p) or_else Check.exact (length sample) (sample_size p) or_else Check.exact (length out) (sample_size p)
 
 -- and 6 of its amplitudes.
-abbrev pub product_amplitudes : (A B : ℕ) → ℕ
-product_amplitudes A B = Check.first (Check.amplitude A) (Check.amplitude B)
+abbrev pub product_amplitudes : (A B : ℕ) → Checked
+product_amplitudes A B = Check.amplitude A or_else Check.amplitude B
 
 -- The same of a CMux.
-abbrev pub cmux_lengths : (p : Parameters) (block sample₀ sample₁ out : List ℕ) → ℕ
+abbrev pub cmux_lengths : (p : Parameters) (block sample₀ sample₁ out : List ℕ) → Checked
 cmux_lengths p block sample₀ sample₁ out =
-    Check.first (Check.exact (length block) (block_size p))
-    (Check.first (Check.exact (length sample₀) (sample_size p))
-    (Check.first (Check.exact (length sample₁) (sample_size p)) (Check.exact (length out) (sample_size p))))
+    Check.exact (length block) (block_size p) or_else Check.exact (length sample₀) (sample_size p)
+    or_else Check.exact (length sample₁) (sample_size p) or_else Check.exact (length out) (sample_size p)
 
-abbrev pub cmux_amplitudes : (A A₀ A₁ : ℕ) → ℕ
-cmux_amplitudes A A₀ A₁ = Check.first (Check.amplitude A) (Check.first (Check.amplitude A₀) (Check.amplitude A₁))
+abbrev pub cmux_amplitudes : (A A₀ A₁ : ℕ) → Checked
+cmux_amplitudes A A₀ A₁ = Check.amplitude A or_else Check.amplitude A₀ or_else Check.amplitude A₁
 
 -- What is asked of the parameter set, and of the lengths in bytes of a block and of two samples.
 pub record Fits (p : Parameters) (block x y : ℕ) : Type 0 where

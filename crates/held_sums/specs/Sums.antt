@@ -9,7 +9,7 @@ use Rattle.butterflies.specs.Butterflies.{Below}
 use Rattle.ntt.specs.Transforms.{Leaves}
 use Rattle.twiddles.specs.declared.Prime.{Prime}
 use Rattle.twiddles.specs.Primes.{modulus}
-use Rattle.twiddles.specs.Tables.{roots_of, quotients_of}
+use Rattle.twiddles.specs.Tables.{roots_of}
 use Rattle.residues.specs.Residues.{residues, Within}
 
 -- Coefficient i of the product of y and b modulo X^N + 1 and modulo p.
@@ -43,11 +43,6 @@ Columns n k R a c = (d : ℕ) → d ≤ k → R d (chunk (2 ^ n) d a) (chunk (2 
 -- The sum of the first R products y_r·b_r modulo X^N + 1 and modulo p.
 unfoldable pub row_sums : (p N R : ℕ) (y b : ℕ → ℕ → ℕ) (i : ℕ) → ℕ
 row_sums p N R y b i = sum R (λ r. product_modulo p N (residues p (y r)) (residues p (b r)) i)
-
--- The tables of a prime, as lent slices hold them.
-pub record TablesOf (prime : Prime) (t q : List ℕ) : Type 0 where
-  pub roots : t ≡ roots_of prime
-  pub quotients : q ≡ quotients_of prime
 
 -- What the code asks of a list of k + 1 sums.
 pub record Places (N k : ℕ) (sums : List ℕ) : Type 0 where

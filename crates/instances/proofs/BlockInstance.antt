@@ -15,7 +15,7 @@ use Rattle.torus.specs.Bytes.{words, bytes}
 use Rattle.torus.proofs.Parts.{bytes_are}
 use Rattle.gadget.specs.Digits.{precision, rounded, digit}
 use Rattle.ring.specs.Polynomial.{product}
-use Rattle.answers.specs.Answers.{number, bound, gates, ◌or_else◌, greatest_magnitude, after}
+use Rattle.answers.specs.Answers.{number, bound, gates, greatest_magnitude, after}
 use Rattle.answers.specs.Checks.{all_below}
 use Rattle.trlwe.specs.Sample.{Key, polynomials, masked, phase, body, encryption}
 use Rattle.trgsw.specs.Parameters as Parameters
@@ -98,20 +98,20 @@ holds_j r i lr li = le_trans (exact_j r i lr li) (lit≤ tt)
 
 -- The call is accepted, with the document's bound and gates.
 pub accepted_j : number (cmux gate_j) ≡ 0
-unfolding masks weight cmux ◌or_else◌ charge precision bytes ones
+unfolding masks weight cmux charge precision bytes ones
 accepted_j = refl
 
 pub bound_j : bound (cmux gate_j) ≡ 917504
-unfolding masks weight cmux ◌or_else◌ charge precision bytes ones
+unfolding masks weight cmux charge precision bytes ones
 bound_j = refl
 
 pub gates_j : gates (cmux gate_j) ≡ 1
-unfolding masks weight cmux ◌or_else◌ charge precision bytes ones
+unfolding masks weight cmux charge precision bytes ones
 gates_j = refl
 
 -- The result is entry 1.
 pub result_j : words (cmux_out gate_j) ≡ 0 ∷ 2147483648 ∷ []
-unfolding masks weight cmux_out cmux ◌or_else◌ after charge precision words bytes ones
+unfolding masks weight cmux_out cmux after charge precision words bytes ones
     cmux_sample polynomials joined tabulate external difference sum product digit rounded
 result_j = refl
 
@@ -152,11 +152,11 @@ block_e = encrypt_selector_block input_e
 
 -- The call is accepted, and reports the greatest magnitude.
 pub accepted_e : number (encrypt_selector input_e) ≡ 0
-unfolding masks weight encrypt_selector ◌or_else◌ words bytes ones all_below
+unfolding masks weight encrypt_selector words bytes ones all_below
 accepted_e = refl
 
 pub bound_e : bound (encrypt_selector input_e) ≡ 3
-unfolding masks weight encrypt_selector ◌or_else◌ words bytes ones all_below greatest_magnitude magnitude
+unfolding masks weight encrypt_selector words bytes ones all_below greatest_magnitude magnitude
 bound_e = refl
 
 -- The block holds 1 within 3, by the theorem,
@@ -166,7 +166,7 @@ holds_e = subst (λ b. Holds set_j 1 b (words key_j) (words block_e)) bound_e
 
 -- and not within 2: its row 1 has the error -3.
 pub noise_e : distance (phase 1 1 (words key_j) (row set_j 1 (words block_e)) 0) (row_phase set_j 1 (words key_j) 1 0) ≡ 3
-unfolding masks weight encrypt_selector_block encrypt_selector ◌or_else◌ after words bytes ones all_below encrypted_block encrypted_row encryption body joined tabulate
+unfolding masks weight encrypt_selector_block encrypt_selector after words bytes ones all_below encrypted_block encrypted_row encryption body joined tabulate
     phase masked sum product row_phase magnitude
 noise_e = refl
 
@@ -179,12 +179,12 @@ abbrev pub product_e : ProductInput
 product_e = record { scheme = scheme_j; amplitude = 3; sample_amplitude = 2; block = block_e; sample = sample_e; out = sample_room }
 
 pub product_accepted_e : number (external_product product_e) ≡ 0
-unfolding masks weight encrypt_selector_block encrypt_selector external_product ◌or_else◌ after charge precision words bytes ones all_below
+unfolding masks weight encrypt_selector_block encrypt_selector external_product after charge precision words bytes ones all_below
     encrypted_block encrypted_row encryption body joined tabulate masked sum product
 product_accepted_e = refl
 
 pub product_bound_e : bound (external_product product_e) ≡ 393218
-unfolding masks weight encrypt_selector_block encrypt_selector external_product ◌or_else◌ after charge precision words bytes ones all_below
+unfolding masks weight encrypt_selector_block encrypt_selector external_product after charge precision words bytes ones all_below
     encrypted_block encrypted_row encryption body joined tabulate masked sum product
 product_bound_e = refl
 

@@ -13,7 +13,7 @@ use Rattle.torus.specs.Word.{distance}
 use Rattle.torus.specs.Bytes.{words, bytes}
 use Rattle.gadget.specs.Digits.{precision, rounded, digit}
 use Rattle.ring.specs.Polynomial.{product, rotated}
-use Rattle.answers.specs.Answers.{number, bound, ◌or_else◌, after}
+use Rattle.answers.specs.Answers.{number, bound, after}
 use Rattle.answers.specs.Checks.{all_below}
 use Rattle.trlwe.specs.Classes.{encode, message}
 use Rattle.trlwe.specs.Sample.{polynomials, phase, trivial}
@@ -44,29 +44,29 @@ file_j A = bytes (words_j A)
 -- "The output is whole".
 pub output_j : output (file_j 7) ≡ ascii "answer 0\nbound 917504\ngates 1\nmask 0 0\nbody 0 2147483648\n"
 unfolding output report line numbers word_lines ascii decimal decimal_up_to job_sample job_answer file_refusal read_job
-    masks weight rotations file_packing lookup_sample lookup ◌or_else◌ after largest charges sum charge precision words bytes ones all_below
+    masks weight rotations file_packing lookup_sample lookup after largest charges sum charge precision words bytes ones all_below
     looked_up blind_rotation tree_sample tree trivial message encode cmux_sample polynomials joined tabulate external difference product digit rounded
 output_j = refl
 
 -- "with 1024, 134217728, answer 9"
 pub output_1024 : output (file_j 1024) ≡ ascii "answer 9\nbound 134217728\n"
 unfolding output report line numbers ascii decimal decimal_up_to job_sample job_answer file_refusal read_job
-    masks weight rotations file_packing lookup ◌or_else◌ largest charges sum charge precision words bytes ones all_below joined tabulate
+    masks weight rotations file_packing lookup largest charges sum charge precision words bytes ones all_below joined tabulate
 output_1024 = refl
 
 -- "A refusal prints only the answer and bound lines": the empty input.
 pub output_none : output [] ≡ ascii "answer 5\nbound 0\n"
-unfolding output report line numbers ascii decimal decimal_up_to job_sample job_answer file_refusal read_job ◌or_else◌ words
+unfolding output report line numbers ascii decimal decimal_up_to job_sample job_answer file_refusal read_job words
 output_none = refl
 
 -- ---- the accuracy rule
 
 accepted_j : number (job_answer (file_j 7)) ≡ 0
-unfolding job_answer file_refusal read_job masks weight rotations file_packing lookup ◌or_else◌ largest charges sum charge precision words bytes ones all_below joined tabulate
+unfolding job_answer file_refusal read_job masks weight rotations file_packing lookup largest charges sum charge precision words bytes ones all_below joined tabulate
 accepted_j = refl
 
 bound_j : bound (job_answer (file_j 7)) ≡ 917504
-unfolding job_answer file_refusal read_job masks weight rotations file_packing lookup ◌or_else◌ largest charges sum charge precision words bytes ones all_below joined tabulate
+unfolding job_answer file_refusal read_job masks weight rotations file_packing lookup largest charges sum charge precision words bytes ones all_below joined tabulate
 bound_j = refl
 
 -- Its premises are met under the key 1, and it says of the file that its sample decrypts to class 8, that of entry 1.

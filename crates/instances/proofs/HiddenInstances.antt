@@ -16,7 +16,7 @@ use Rattle.torus.specs.Bytes.{AreBytes, words, bytes}
 use Rattle.torus.proofs.Parts.{bytes_are}
 use Rattle.gadget.specs.Digits.{precision, rounded, digit}
 use Rattle.ring.specs.Polynomial.{product, rotated}
-use Rattle.answers.specs.Answers.{number, bound, gates, ◌or_else◌, greatest_magnitude, after}
+use Rattle.answers.specs.Answers.{number, bound, gates, greatest_magnitude, after}
 use Rattle.answers.specs.Checks.{all_below}
 use Rattle.trlwe.specs.Classes.{encode, message}
 use Rattle.trlwe.specs.Sample.{polynomials, masked, phase, body, encryption, rotated_sample}
@@ -68,19 +68,19 @@ abbrev pub sample_b : List ℕ
 sample_b = encrypt_classes_sample 2 16 2 key_p mask_b errors_b (bytes (2 ∷ 14 ∷ [])) sample_room_p
 
 accepted_a : number (encrypt_classes 2 16 2 key_p mask_a errors_a (bytes (5 ∷ 9 ∷ [])) sample_room_p) ≡ 0
-unfolding encrypt_classes ◌or_else◌ words bytes ones all_below greatest_magnitude magnitude
+unfolding encrypt_classes words bytes ones all_below greatest_magnitude magnitude
 accepted_a = refl
 
 bound_a : bound (encrypt_classes 2 16 2 key_p mask_a errors_a (bytes (5 ∷ 9 ∷ [])) sample_room_p) ≡ 1000
-unfolding encrypt_classes ◌or_else◌ words bytes ones all_below greatest_magnitude magnitude
+unfolding encrypt_classes words bytes ones all_below greatest_magnitude magnitude
 bound_a = refl
 
 accepted_b : number (encrypt_classes 2 16 2 key_p mask_b errors_b (bytes (2 ∷ 14 ∷ [])) sample_room_p) ≡ 0
-unfolding encrypt_classes ◌or_else◌ words bytes ones all_below greatest_magnitude magnitude
+unfolding encrypt_classes words bytes ones all_below greatest_magnitude magnitude
 accepted_b = refl
 
 bound_b : bound (encrypt_classes 2 16 2 key_p mask_b errors_b (bytes (2 ∷ 14 ∷ [])) sample_room_p) ≡ 300
-unfolding encrypt_classes ◌or_else◌ words bytes ones all_below greatest_magnitude magnitude
+unfolding encrypt_classes words bytes ones all_below greatest_magnitude magnitude
 bound_b = refl
 
 -- The table that they make up, and its classes.
@@ -91,12 +91,12 @@ abbrev pub classes_ab : List ℕ
 classes_ab = bytes (5 ∷ 9 ∷ 2 ∷ 14 ∷ [])
 
 sample_a_words : sample_a ≡ bytes (2654435769 ∷ 1013904223 ∷ 2982709826 ∷ 1789291100 ∷ [])
-unfolding encrypt_classes_sample encrypt_classes ◌or_else◌ after words bytes ones all_below greatest_magnitude magnitude
+unfolding encrypt_classes_sample encrypt_classes after words bytes ones all_below greatest_magnitude magnitude
     encryption body tabulate masked sum product message encode
 sample_a_words = refl
 
 table_ab_words : table_ab ≡ bytes (2654435769 ∷ 1013904223 ∷ 2982709826 ∷ 1789291100 ∷ 1597334677 ∷ 3812015801 ∷ 2617156784 ∷ 577512520 ∷ [])
-unfolding masks encrypt_classes_sample encrypt_classes ◌or_else◌ after words bytes ones all_below greatest_magnitude magnitude
+unfolding masks encrypt_classes_sample encrypt_classes after words bytes ones all_below greatest_magnitude magnitude
     encryption body tabulate masked sum product message encode
 table_ab_words = refl
 
@@ -105,12 +105,12 @@ bytes_ab = subst AreBytes (sym table_ab_words) (bytes_are _)
 
 -- Each sample in it is the one that was made.
 first_ab : chunk 16 0 table_ab ≡ sample_a
-unfolding encrypt_classes_sample encrypt_classes ◌or_else◌ after words bytes ones all_below greatest_magnitude magnitude
+unfolding encrypt_classes_sample encrypt_classes after words bytes ones all_below greatest_magnitude magnitude
     encryption body tabulate masked sum product message encode
 first_ab = refl
 
 second_ab : chunk 16 1 table_ab ≡ sample_b
-unfolding encrypt_classes_sample encrypt_classes ◌or_else◌ after words bytes ones all_below greatest_magnitude magnitude
+unfolding encrypt_classes_sample encrypt_classes after words bytes ones all_below greatest_magnitude magnitude
     encryption body tabulate masked sum product message encode
 second_ab = refl
 
@@ -164,17 +164,17 @@ job_vertical = record {
 
 -- The lookup is accepted, with the sum of two charges, which is 203776, and the amplitude of sample 0.
 accepted_vertical : IsAccepted job_vertical
-unfolding encrypt_selector_block encrypt_selector encrypt_classes_sample encrypt_classes masks weight rotations lookup ◌or_else◌ after charges largest External.charge precision
+unfolding encrypt_selector_block encrypt_selector encrypt_classes_sample encrypt_classes masks weight rotations lookup after charges largest External.charge precision
     words bytes ones count_trailing_zeros all_below greatest_magnitude magnitude encrypted_block encrypted_row encryption body joined tabulate masked sum product message encode
 accepted_vertical = refl
 
 pub bound_vertical : bound (lookup job_vertical) ≡ 204776
-unfolding encrypt_selector_block encrypt_selector encrypt_classes_sample encrypt_classes masks weight rotations lookup ◌or_else◌ after charges largest External.charge precision
+unfolding encrypt_selector_block encrypt_selector encrypt_classes_sample encrypt_classes masks weight rotations lookup after charges largest External.charge precision
     words bytes ones count_trailing_zeros all_below greatest_magnitude magnitude encrypted_block encrypted_row encryption body joined tabulate masked sum product message encode
 bound_vertical = refl
 
 pub gates_vertical : gates (lookup job_vertical) ≡ 2
-unfolding encrypt_selector_block encrypt_selector encrypt_classes_sample encrypt_classes masks weight rotations lookup ◌or_else◌ after charges largest External.charge precision
+unfolding encrypt_selector_block encrypt_selector encrypt_classes_sample encrypt_classes masks weight rotations lookup after charges largest External.charge precision
     words bytes ones count_trailing_zeros all_below greatest_magnitude magnitude encrypted_block encrypted_row encryption body joined tabulate masked sum product message encode
 gates_vertical = refl
 
@@ -217,7 +217,7 @@ rule_vertical =
 
 -- Its noise is not 0. It is above the amplitude of the sample that the bits name.
 pub noise_vertical : distance (phase 2 1 (words key_p) (words (lookup_sample job_vertical)) 0) (14 * 2 ^ 28) ≡ 609
-unfolding encrypt_selector_block encrypt_selector encrypt_classes_sample encrypt_classes lookup_sample masks weight rotations lookup ◌or_else◌ after charges largest External.charge
+unfolding encrypt_selector_block encrypt_selector encrypt_classes_sample encrypt_classes lookup_sample masks weight rotations lookup after charges largest External.charge
     precision words bytes ones count_trailing_zeros all_below greatest_magnitude magnitude encrypted_block encrypted_row encryption body joined tabulate masked sum product
     message encode looked_up blind_rotation rotation_step rotated_sample rotated tree_sample tree cmux_sample polynomials external difference digit rounded phase
 noise_vertical = refl
@@ -238,23 +238,23 @@ job_horizontal = record {
 
 -- The lookup is accepted, with one charge, which is 103424, and the amplitude of entry 1.
 accepted_horizontal : IsAccepted job_horizontal
-unfolding encrypt_selector_block encrypt_selector encrypt_classes_sample encrypt_classes masks weight rotations lookup ◌or_else◌ after charges largest External.charge precision
+unfolding encrypt_selector_block encrypt_selector encrypt_classes_sample encrypt_classes masks weight rotations lookup after charges largest External.charge precision
     words bytes ones all_below greatest_magnitude magnitude encrypted_block encrypted_row encryption body joined tabulate masked sum product message encode
 accepted_horizontal = refl
 
 pub bound_horizontal : bound (lookup job_horizontal) ≡ 104924
-unfolding encrypt_selector_block encrypt_selector encrypt_classes_sample encrypt_classes masks weight rotations lookup ◌or_else◌ after charges largest External.charge precision
+unfolding encrypt_selector_block encrypt_selector encrypt_classes_sample encrypt_classes masks weight rotations lookup after charges largest External.charge precision
     words bytes ones all_below greatest_magnitude magnitude encrypted_block encrypted_row encryption body joined tabulate masked sum product message encode
 bound_horizontal = refl
 
 pub gates_horizontal : gates (lookup job_horizontal) ≡ 1
-unfolding encrypt_selector_block encrypt_selector encrypt_classes_sample encrypt_classes masks weight rotations lookup ◌or_else◌ after charges largest External.charge precision
+unfolding encrypt_selector_block encrypt_selector encrypt_classes_sample encrypt_classes masks weight rotations lookup after charges largest External.charge precision
     words bytes ones all_below greatest_magnitude magnitude encrypted_block encrypted_row encryption body joined tabulate masked sum product message encode
 gates_horizontal = refl
 
 -- Its block and its table come from encryption.
 first_q : chunk 64 0 block_q ≡ block_q
-unfolding masks encrypt_selector_block encrypt_selector ◌or_else◌ after words bytes ones all_below
+unfolding masks encrypt_selector_block encrypt_selector after words bytes ones all_below
     encrypted_block encrypted_row encryption body joined tabulate masked sum product
 first_q = refl
 
@@ -307,7 +307,7 @@ rule_horizontal =
 pub noise_horizontal :
     (distance (phase 2 1 (words key_p) (words (lookup_sample job_horizontal)) 0) (5 * 2 ^ 28) ≡ 1003)
     × (distance (phase 2 1 (words key_p) (words (lookup_sample job_horizontal)) 1) (9 * 2 ^ 28) ≡ 835)
-unfolding encrypt_selector_block encrypt_selector encrypt_classes_sample encrypt_classes lookup_sample masks weight rotations lookup ◌or_else◌ after charges largest External.charge
+unfolding encrypt_selector_block encrypt_selector encrypt_classes_sample encrypt_classes lookup_sample masks weight rotations lookup after charges largest External.charge
     precision words bytes ones all_below greatest_magnitude magnitude encrypted_block encrypted_row encryption body joined tabulate masked sum product
     message encode looked_up blind_rotation tree_sample tree cmux_sample polynomials external difference digit rounded phase
 noise_horizontal = (refl, refl)
@@ -328,17 +328,17 @@ job_none A = record {
 
 -- The lookup is accepted, and its bound is the entry's amplitude.
 accepted_none : IsAccepted (job_none 1000)
-unfolding encrypt_classes_sample encrypt_classes masks rotations lookup ◌or_else◌ after charges largest words bytes ones all_below greatest_magnitude magnitude
+unfolding encrypt_classes_sample encrypt_classes masks rotations lookup after charges largest words bytes ones all_below greatest_magnitude magnitude
     encryption body tabulate masked sum product message encode
 accepted_none = refl
 
 pub bound_none : bound (lookup (job_none 1000)) ≡ 1000
-unfolding encrypt_classes_sample encrypt_classes masks rotations lookup ◌or_else◌ after charges largest words bytes ones all_below greatest_magnitude magnitude
+unfolding encrypt_classes_sample encrypt_classes masks rotations lookup after charges largest words bytes ones all_below greatest_magnitude magnitude
     encryption body tabulate masked sum product message encode
 bound_none = refl
 
 pub gates_none : gates (lookup (job_none 1000)) ≡ 0
-unfolding encrypt_classes_sample encrypt_classes masks rotations lookup ◌or_else◌ after charges largest words bytes ones all_below greatest_magnitude magnitude
+unfolding encrypt_classes_sample encrypt_classes masks rotations lookup after charges largest words bytes ones all_below greatest_magnitude magnitude
     encryption body tabulate masked sum product message encode
 gates_none = refl
 
@@ -351,7 +351,7 @@ bytes_a : AreBytes sample_a
 bytes_a = subst AreBytes (sym sample_a_words) (bytes_are _)
 
 first_a : chunk 16 0 sample_a ≡ sample_a
-unfolding encrypt_classes_sample encrypt_classes ◌or_else◌ after words bytes ones all_below greatest_magnitude magnitude
+unfolding encrypt_classes_sample encrypt_classes after words bytes ones all_below greatest_magnitude magnitude
     encryption body tabulate masked sum product message encode
 first_a = refl
 
@@ -385,29 +385,29 @@ rule_none =
 
 -- What it leaves is the entry itself, so its noise is the entry's errors: in coefficient 0 it is as much as the bound.
 pub result_none : lookup_sample (job_none 1000) ≡ sample_a
-unfolding encrypt_classes_sample encrypt_classes lookup_sample masks rotations lookup ◌or_else◌ after charges largest words bytes ones all_below greatest_magnitude magnitude
+unfolding encrypt_classes_sample encrypt_classes lookup_sample masks rotations lookup after charges largest words bytes ones all_below greatest_magnitude magnitude
     encryption body tabulate masked sum product message encode looked_up blind_rotation tree_sample tree
 result_none = refl
 
 pub noise_none :
     (distance (phase 2 1 (words key_p) (words (lookup_sample (job_none 1000))) 0) (5 * 2 ^ 28) ≡ 1000)
     × (distance (phase 2 1 (words key_p) (words (lookup_sample (job_none 1000))) 1) (9 * 2 ^ 28) ≡ 700)
-unfolding encrypt_classes_sample encrypt_classes lookup_sample masks rotations lookup ◌or_else◌ after charges largest words bytes ones all_below greatest_magnitude magnitude
+unfolding encrypt_classes_sample encrypt_classes lookup_sample masks rotations lookup after charges largest words bytes ones all_below greatest_magnitude magnitude
     encryption body tabulate masked sum product message encode looked_up blind_rotation tree_sample tree phase
 noise_none = (refl, refl)
 
 -- With M = 16 the limit is 2^27. An amplitude below it is accepted; at it the lookup is answered 9, and the bound is reported.
 pub accepted_under : number (lookup (job_none 134217727)) ≡ 0
-unfolding encrypt_classes_sample encrypt_classes masks rotations lookup ◌or_else◌ after charges largest words bytes ones all_below greatest_magnitude magnitude
+unfolding encrypt_classes_sample encrypt_classes masks rotations lookup after charges largest words bytes ones all_below greatest_magnitude magnitude
     encryption body tabulate masked sum product message encode
 accepted_under = refl
 
 pub refused_limit : number (lookup (job_none 134217728)) ≡ 9
-unfolding encrypt_classes_sample encrypt_classes masks rotations lookup ◌or_else◌ after charges largest words bytes ones all_below greatest_magnitude magnitude
+unfolding encrypt_classes_sample encrypt_classes masks rotations lookup after charges largest words bytes ones all_below greatest_magnitude magnitude
     encryption body tabulate masked sum product message encode
 refused_limit = refl
 
 pub bound_limit : bound (lookup (job_none 134217728)) ≡ 134217728
-unfolding encrypt_classes_sample encrypt_classes masks rotations lookup ◌or_else◌ after charges largest words bytes ones all_below greatest_magnitude magnitude
+unfolding encrypt_classes_sample encrypt_classes masks rotations lookup after charges largest words bytes ones all_below greatest_magnitude magnitude
     encryption body tabulate masked sum product message encode
 bound_limit = refl

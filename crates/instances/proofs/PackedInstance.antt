@@ -15,7 +15,7 @@ use Rattle.torus.specs.Bytes.{words, bytes}
 use Rattle.torus.proofs.Parts.{bytes_are}
 use Rattle.gadget.specs.Digits.{precision, rounded, digit}
 use Rattle.ring.specs.Polynomial.{product, rotated}
-use Rattle.answers.specs.Answers.{number, bound, gates, ◌or_else◌, greatest_magnitude, after}
+use Rattle.answers.specs.Answers.{number, bound, gates, greatest_magnitude, after}
 use Rattle.answers.specs.Checks.{all_below}
 use Rattle.trlwe.specs.Classes.{encode, message}
 use Rattle.trlwe.specs.Sample.{Key, polynomials, masked, phase, body, encryption, trivial}
@@ -76,11 +76,11 @@ abbrev pub block_q : List ℕ
 block_q = encrypt_selector_block (input 2 8 2 0 key_p masks_q errors_q block_room_p)
 
 pub accepted_q : number (encrypt_selector (input 2 8 2 0 key_p masks_q errors_q block_room_p)) ≡ 0
-unfolding masks encrypt_selector ◌or_else◌ words bytes ones all_below
+unfolding masks encrypt_selector words bytes ones all_below
 accepted_q = refl
 
 pub bound_q : bound (encrypt_selector (input 2 8 2 0 key_p masks_q errors_q block_room_p)) ≡ 5
-unfolding masks encrypt_selector ◌or_else◌ words bytes ones all_below greatest_magnitude magnitude
+unfolding masks encrypt_selector words bytes ones all_below greatest_magnitude magnitude
 bound_q = refl
 
 -- A block that encrypts 1: its masks, and the errors 1, -3, 2, 0, -1, 3, -2, 1.
@@ -94,11 +94,11 @@ abbrev pub block_r : List ℕ
 block_r = encrypt_selector_block (input 2 8 2 1 key_p masks_r errors_r block_room_p)
 
 pub accepted_r : number (encrypt_selector (input 2 8 2 1 key_p masks_r errors_r block_room_p)) ≡ 0
-unfolding masks encrypt_selector ◌or_else◌ words bytes ones all_below
+unfolding masks encrypt_selector words bytes ones all_below
 accepted_r = refl
 
 pub bound_r : bound (encrypt_selector (input 2 8 2 1 key_p masks_r errors_r block_room_p)) ≡ 3
-unfolding masks encrypt_selector ◌or_else◌ words bytes ones all_below greatest_magnitude magnitude
+unfolding masks encrypt_selector words bytes ones all_below greatest_magnitude magnitude
 bound_r = refl
 
 -- Selector 0 holds 0, and selector 1 holds 1: they name entry 2, whose classes are 8 and 15. The second amplitude is above the bound
@@ -130,28 +130,28 @@ job_p = record { numbers = numbers_p; blocks = blocks_p; amplitudes = amplitudes
 
 -- The lookup is accepted, with the sum of two charges and three gates. A charge is 1024 times the amplitude, and 3 times 2^15.
 pub accepted_p : number (lookup job_p) ≡ 0
-unfolding encrypt_selector_block encrypt_selector masks weight rotations lookup ◌or_else◌ after charges largest External.charge precision words bytes ones all_below
+unfolding encrypt_selector_block encrypt_selector masks weight rotations lookup after charges largest External.charge precision words bytes ones all_below
     encrypted_block encrypted_row encryption body joined tabulate masked sum product
 accepted_p = refl
 
 pub bound_p : bound (lookup job_p) ≡ 205824
-unfolding encrypt_selector_block encrypt_selector masks weight rotations lookup ◌or_else◌ after charges largest External.charge precision words bytes ones all_below
+unfolding encrypt_selector_block encrypt_selector masks weight rotations lookup after charges largest External.charge precision words bytes ones all_below
     encrypted_block encrypted_row encryption body joined tabulate masked sum product
 bound_p = refl
 
 pub gates_p : gates (lookup job_p) ≡ 3
-unfolding encrypt_selector_block encrypt_selector masks weight rotations lookup ◌or_else◌ after charges largest External.charge precision words bytes ones all_below
+unfolding encrypt_selector_block encrypt_selector masks weight rotations lookup after charges largest External.charge precision words bytes ones all_below
     encrypted_block encrypted_row encryption body joined tabulate masked sum product
 gates_p = refl
 
 -- Each lent block is the one that was made, and the declared amplitude is no less than the bound that was reported.
 block_q_chunk : chunk 64 0 blocks_p ≡ block_q
-unfolding masks encrypt_selector_block encrypt_selector ◌or_else◌ after words bytes ones all_below
+unfolding masks encrypt_selector_block encrypt_selector after words bytes ones all_below
     encrypted_block encrypted_row encryption body joined tabulate masked sum product
 block_q_chunk = refl
 
 block_r_chunk : chunk 64 1 blocks_p ≡ block_r
-unfolding masks encrypt_selector_block encrypt_selector ◌or_else◌ after words bytes ones all_below
+unfolding masks encrypt_selector_block encrypt_selector after words bytes ones all_below
     encrypted_block encrypted_row encryption body joined tabulate masked sum product
 block_r_chunk = refl
 
@@ -209,7 +209,7 @@ rule_p =
 
 -- Its mask is not 0, and neither is its noise. In coefficient 0 it is above 9216, what the amplitudes are charged: there is rounding in it.
 pub result_p_words : words result_p ≡ 2773553129 ∷ 3796587218 ∷ 1124383607 ∷ 2006737680 ∷ []
-unfolding encrypt_selector_block encrypt_selector lookup_sample masks weight rotations lookup ◌or_else◌ after charges largest External.charge precision words bytes ones all_below
+unfolding encrypt_selector_block encrypt_selector lookup_sample masks weight rotations lookup after charges largest External.charge precision words bytes ones all_below
     encrypted_block encrypted_row encryption body joined tabulate masked sum product
     looked_up blind_rotation tree_sample tree trivial message encode cmux_sample polynomials external difference digit rounded
 result_p_words = refl
@@ -217,7 +217,7 @@ result_p_words = refl
 pub noise_p :
     (distance (phase 2 1 (words key_p) (words result_p) 0) (8 * 2 ^ 28) ≡ 65952)
     × (distance (phase 2 1 (words key_p) (words result_p) 1) (15 * 2 ^ 28) ≡ 85)
-unfolding encrypt_selector_block encrypt_selector lookup_sample masks weight rotations lookup ◌or_else◌ after charges largest External.charge precision words bytes ones all_below
+unfolding encrypt_selector_block encrypt_selector lookup_sample masks weight rotations lookup after charges largest External.charge precision words bytes ones all_below
     encrypted_block encrypted_row encryption body joined tabulate masked sum product
     looked_up blind_rotation tree_sample tree trivial message encode cmux_sample polynomials external difference digit rounded phase magnitude
 noise_p = (refl, refl)

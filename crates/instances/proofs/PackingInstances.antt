@@ -16,7 +16,7 @@ use Rattle.torus.specs.Bytes.{words, bytes}
 use Rattle.torus.proofs.Parts.{bytes_are}
 use Rattle.gadget.specs.Digits.{precision, rounded, digit}
 use Rattle.ring.specs.Polynomial.{product, rotated}
-use Rattle.answers.specs.Answers.{number, bound, gates, ◌or_else◌, greatest_magnitude, after}
+use Rattle.answers.specs.Answers.{number, bound, gates, greatest_magnitude, after}
 use Rattle.answers.specs.Checks.{all_below}
 use Rattle.trlwe.specs.Classes.{encode, message}
 use Rattle.trlwe.specs.Sample.{Key, polynomials, masked, phase, body, encryption, trivial, rotated_sample}
@@ -60,11 +60,11 @@ abbrev pub block_s : List ℕ
 block_s = encrypt_selector_block (input 2 8 2 1 key_p masks_s errors_s block_room_p)
 
 accepted_s : number (encrypt_selector (input 2 8 2 1 key_p masks_s errors_s block_room_p)) ≡ 0
-unfolding masks encrypt_selector ◌or_else◌ words bytes ones all_below
+unfolding masks encrypt_selector words bytes ones all_below
 accepted_s = refl
 
 bound_s : bound (encrypt_selector (input 2 8 2 1 key_p masks_s errors_s block_room_p)) ≡ 4
-unfolding masks encrypt_selector ◌or_else◌ words bytes ones all_below greatest_magnitude magnitude
+unfolding masks encrypt_selector words bytes ones all_below greatest_magnitude magnitude
 bound_s = refl
 
 -- Selectors 0 and 1 hold 1: they name entry 3, in coefficient 1 of sample 1. Selector 1 picks the sample, and selector 0 rotates it.
@@ -84,28 +84,28 @@ job_above = record {
 
 -- The lookup is accepted, with the sum of two charges, one gate of the tree and one of the rotation.
 accepted_above : IsAccepted job_above
-unfolding encrypt_selector_block encrypt_selector masks weight rotations lookup ◌or_else◌ after charges largest External.charge precision words bytes ones count_trailing_zeros
+unfolding encrypt_selector_block encrypt_selector masks weight rotations lookup after charges largest External.charge precision words bytes ones count_trailing_zeros
     all_below encrypted_block encrypted_row encryption body joined tabulate masked sum product
 accepted_above = refl
 
 pub bound_above : bound (lookup job_above) ≡ 203776
-unfolding encrypt_selector_block encrypt_selector masks weight rotations lookup ◌or_else◌ after charges largest External.charge precision words bytes ones count_trailing_zeros
+unfolding encrypt_selector_block encrypt_selector masks weight rotations lookup after charges largest External.charge precision words bytes ones count_trailing_zeros
     all_below encrypted_block encrypted_row encryption body joined tabulate masked sum product
 bound_above = refl
 
 pub gates_above : gates (lookup job_above) ≡ 2
-unfolding encrypt_selector_block encrypt_selector masks weight rotations lookup ◌or_else◌ after charges largest External.charge precision words bytes ones count_trailing_zeros
+unfolding encrypt_selector_block encrypt_selector masks weight rotations lookup after charges largest External.charge precision words bytes ones count_trailing_zeros
     all_below encrypted_block encrypted_row encryption body joined tabulate masked sum product
 gates_above = refl
 
 -- Each lent block is the one that was made.
 first_above : chunk 64 0 job_above.blocks ≡ block_r
-unfolding masks encrypt_selector_block encrypt_selector ◌or_else◌ after words bytes ones all_below
+unfolding masks encrypt_selector_block encrypt_selector after words bytes ones all_below
     encrypted_block encrypted_row encryption body joined tabulate masked sum product
 first_above = refl
 
 second_above : chunk 64 1 job_above.blocks ≡ block_s
-unfolding masks encrypt_selector_block encrypt_selector ◌or_else◌ after words bytes ones all_below
+unfolding masks encrypt_selector_block encrypt_selector after words bytes ones all_below
     encrypted_block encrypted_row encryption body joined tabulate masked sum product
 second_above = refl
 
@@ -147,7 +147,7 @@ rule_above =
 
 -- Its noise is not 0.
 pub noise_above : distance (phase 2 1 (words key_p) (words (lookup_sample job_above)) 0) (14 * 2 ^ 28) ≡ 11
-unfolding encrypt_selector_block encrypt_selector lookup_sample masks weight rotations lookup ◌or_else◌ after charges largest External.charge precision words bytes ones
+unfolding encrypt_selector_block encrypt_selector lookup_sample masks weight rotations lookup after charges largest External.charge precision words bytes ones
     count_trailing_zeros all_below encrypted_block encrypted_row encryption body joined tabulate masked sum product looked_up blind_rotation rotation_step rotated_sample
     rotated tree_sample tree trivial message encode cmux_sample polynomials external difference digit rounded phase magnitude
 noise_above = refl
@@ -170,7 +170,7 @@ job_one q = record {
 }
 
 first_one : chunk 64 0 block_r ≡ block_r
-unfolding masks encrypt_selector_block encrypt_selector ◌or_else◌ after words bytes ones all_below
+unfolding masks encrypt_selector_block encrypt_selector after words bytes ones all_below
     encrypted_block encrypted_row encryption body joined tabulate masked sum product
 first_one = refl
 
@@ -187,32 +187,32 @@ encrypted_one q = record {
 
 -- Both are accepted, with one charge and one gate: of the rotation, or of the tree.
 accepted_equal : IsAccepted (job_one Vertical)
-unfolding encrypt_selector_block encrypt_selector masks weight rotations lookup ◌or_else◌ after charges largest External.charge precision words bytes ones count_trailing_zeros
+unfolding encrypt_selector_block encrypt_selector masks weight rotations lookup after charges largest External.charge precision words bytes ones count_trailing_zeros
     all_below encrypted_block encrypted_row encryption body joined tabulate masked sum product
 accepted_equal = refl
 
 pub bound_equal : bound (lookup (job_one Vertical)) ≡ 101376
-unfolding encrypt_selector_block encrypt_selector masks weight rotations lookup ◌or_else◌ after charges largest External.charge precision words bytes ones count_trailing_zeros
+unfolding encrypt_selector_block encrypt_selector masks weight rotations lookup after charges largest External.charge precision words bytes ones count_trailing_zeros
     all_below encrypted_block encrypted_row encryption body joined tabulate masked sum product
 bound_equal = refl
 
 pub gates_equal : gates (lookup (job_one Vertical)) ≡ 1
-unfolding encrypt_selector_block encrypt_selector masks weight rotations lookup ◌or_else◌ after charges largest External.charge precision words bytes ones count_trailing_zeros
+unfolding encrypt_selector_block encrypt_selector masks weight rotations lookup after charges largest External.charge precision words bytes ones count_trailing_zeros
     all_below encrypted_block encrypted_row encryption body joined tabulate masked sum product
 gates_equal = refl
 
 accepted_few : IsAccepted (job_one Horizontal)
-unfolding encrypt_selector_block encrypt_selector masks weight rotations lookup ◌or_else◌ after charges largest External.charge precision words bytes ones count_trailing_zeros
+unfolding encrypt_selector_block encrypt_selector masks weight rotations lookup after charges largest External.charge precision words bytes ones count_trailing_zeros
     all_below encrypted_block encrypted_row encryption body joined tabulate masked sum product
 accepted_few = refl
 
 pub bound_few : bound (lookup (job_one Horizontal)) ≡ 101376
-unfolding encrypt_selector_block encrypt_selector masks weight rotations lookup ◌or_else◌ after charges largest External.charge precision words bytes ones count_trailing_zeros
+unfolding encrypt_selector_block encrypt_selector masks weight rotations lookup after charges largest External.charge precision words bytes ones count_trailing_zeros
     all_below encrypted_block encrypted_row encryption body joined tabulate masked sum product
 bound_few = refl
 
 pub gates_few : gates (lookup (job_one Horizontal)) ≡ 1
-unfolding encrypt_selector_block encrypt_selector masks weight rotations lookup ◌or_else◌ after charges largest External.charge precision words bytes ones count_trailing_zeros
+unfolding encrypt_selector_block encrypt_selector masks weight rotations lookup after charges largest External.charge precision words bytes ones count_trailing_zeros
     all_below encrypted_block encrypted_row encryption body joined tabulate masked sum product
 gates_few = refl
 
@@ -229,7 +229,7 @@ rule_equal =
 
 -- Its noise is not 0.
 pub noise_equal : distance (phase 2 1 (words key_p) (words (lookup_sample (job_one Vertical))) 0) (9 * 2 ^ 28) ≡ 160
-unfolding encrypt_selector_block encrypt_selector lookup_sample masks weight rotations lookup ◌or_else◌ after charges largest External.charge precision words bytes ones
+unfolding encrypt_selector_block encrypt_selector lookup_sample masks weight rotations lookup after charges largest External.charge precision words bytes ones
     count_trailing_zeros all_below encrypted_block encrypted_row encryption body joined tabulate masked sum product looked_up blind_rotation rotation_step rotated_sample
     rotated tree_sample tree trivial message encode cmux_sample polynomials external difference digit rounded phase magnitude
 noise_equal = refl
@@ -254,7 +254,7 @@ rule_few =
 pub noise_few :
     (distance (phase 2 1 (words key_p) (words (lookup_sample (job_one Horizontal))) 0) (9 * 2 ^ 28) ≡ 64)
     × (distance (phase 2 1 (words key_p) (words (lookup_sample (job_one Horizontal))) 1) 0 ≡ 192)
-unfolding encrypt_selector_block encrypt_selector lookup_sample masks weight rotations lookup ◌or_else◌ after charges largest External.charge precision words bytes ones
+unfolding encrypt_selector_block encrypt_selector lookup_sample masks weight rotations lookup after charges largest External.charge precision words bytes ones
     count_trailing_zeros all_below encrypted_block encrypted_row encryption body joined tabulate masked sum product looked_up blind_rotation rotation_step rotated_sample
     rotated tree_sample tree trivial message encode cmux_sample polynomials external difference digit rounded phase magnitude
 noise_few = (refl, refl)
@@ -295,11 +295,11 @@ abbrev pub block_b : List ℕ
 block_b = encrypt_selector_block (input 4 8 2 1 key_b masks_b errors_b (zeros 32))
 
 accepted_b : number (encrypt_selector (input 4 8 2 1 key_b masks_b errors_b (zeros 32))) ≡ 0
-unfolding masks encrypt_selector ◌or_else◌ words bytes ones all_below
+unfolding masks encrypt_selector words bytes ones all_below
 accepted_b = refl
 
 bound_b : bound (encrypt_selector (input 4 8 2 1 key_b masks_b errors_b (zeros 32))) ≡ 3
-unfolding masks encrypt_selector ◌or_else◌ words bytes ones all_below greatest_magnitude magnitude
+unfolding masks encrypt_selector words bytes ones all_below greatest_magnitude magnitude
 bound_b = refl
 
 -- The selector holds 1, and names entry 1 of two, which fill coefficients 0 and 1 of the one sample.
@@ -319,22 +319,22 @@ job_below = record {
 
 -- The lookup is accepted, with one charge and one gate.
 accepted_below : IsAccepted job_below
-unfolding encrypt_selector_block encrypt_selector masks weight rotations lookup ◌or_else◌ after charges largest External.charge precision words bytes ones count_trailing_zeros
+unfolding encrypt_selector_block encrypt_selector masks weight rotations lookup after charges largest External.charge precision words bytes ones count_trailing_zeros
     all_below encrypted_block encrypted_row encryption body joined tabulate masked sum product
 accepted_below = refl
 
 pub bound_below : bound (lookup job_below) ≡ 169984
-unfolding encrypt_selector_block encrypt_selector masks weight rotations lookup ◌or_else◌ after charges largest External.charge precision words bytes ones count_trailing_zeros
+unfolding encrypt_selector_block encrypt_selector masks weight rotations lookup after charges largest External.charge precision words bytes ones count_trailing_zeros
     all_below encrypted_block encrypted_row encryption body joined tabulate masked sum product
 bound_below = refl
 
 pub gates_below : gates (lookup job_below) ≡ 1
-unfolding encrypt_selector_block encrypt_selector masks weight rotations lookup ◌or_else◌ after charges largest External.charge precision words bytes ones count_trailing_zeros
+unfolding encrypt_selector_block encrypt_selector masks weight rotations lookup after charges largest External.charge precision words bytes ones count_trailing_zeros
     all_below encrypted_block encrypted_row encryption body joined tabulate masked sum product
 gates_below = refl
 
 first_below : chunk 128 0 block_b ≡ block_b
-unfolding masks encrypt_selector_block encrypt_selector ◌or_else◌ after words bytes ones all_below
+unfolding masks encrypt_selector_block encrypt_selector after words bytes ones all_below
     encrypted_block encrypted_row encryption body joined tabulate masked sum product
 first_below = refl
 
@@ -367,7 +367,7 @@ rule_below =
 
 -- Its noise is not 0.
 pub noise_below : distance (phase 4 1 (words key_b) (words (lookup_sample job_below)) 0) (9 * 2 ^ 28) ≡ 48
-unfolding encrypt_selector_block encrypt_selector lookup_sample masks weight rotations lookup ◌or_else◌ after charges largest External.charge precision words bytes ones
+unfolding encrypt_selector_block encrypt_selector lookup_sample masks weight rotations lookup after charges largest External.charge precision words bytes ones
     count_trailing_zeros all_below encrypted_block encrypted_row encryption body joined tabulate masked sum product looked_up blind_rotation rotation_step rotated_sample
     rotated tree_sample tree trivial message encode cmux_sample polynomials external difference digit rounded phase magnitude
 noise_below = refl

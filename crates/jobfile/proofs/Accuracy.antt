@@ -9,8 +9,9 @@ use lib.Dec.{eqb}
 use lib.ListN.{length}
 use borrow.Author.Tests.{eq-eqb, ne_eqb, lt-ltb, le-ltb}
 use Rattle.torus.specs.Bytes.{AreBytes, words}
-use Rattle.answers.specs.Answers.{number, ◌or_else◌}
-use Rattle.answers.specs.declared.Answer.TheVariants.{Refused}
+use Rattle.std.specs.Prelude.{Err}
+use Rattle.answers.specs.Answers.{number}
+use Rattle.answers.specs.declared.Refusal.TheVariants as Refused
 use Rattle.tables.specs.declared.Packing.TheVariants.{Horizontal, Vertical}
 use Rattle.tables.specs.declared.Visibility.TheVariants.{Public}
 use Rattle.tables.specs.Numbers.{LawfulNumbers}
@@ -41,8 +42,8 @@ well_formed_answer file w =
 -- What begins as a job does, has lawful numbers and is not well-formed, is refused with 5: "for any other wrong length or section
 -- three count".
 pub malformed_answer : (file : List ℕ) → AreBytes file → Begins file → LawfulNumbers (read_job file).numbers → (WellFormed file → ⊥)
-    → job_answer file ≡ Refused 5
-unfolding job_answer ◌or_else◌
+    → job_answer file ≡ Err Refused.Length
+unfolding job_answer
 malformed_answer file byte begins lawful never =
     rw (refused_sections file begins lawful (λ e. never (passes_well_formed file e byte)))
 

@@ -8,8 +8,11 @@ use lib.ListN.{length, take, drop}
 use lib.Seq.{drop-drop}
 use Rattle.torus.specs.Bytes.{AreBytes, words, bytes}
 use Rattle.torus.proofs.Parts.{words_drop, back_all, bytes_words, drop_bytes}
+use Rattle.std.specs.Prelude.{Result, Err}
+use Rattle.answers.specs.declared.Refusal.{Refusal}
+use Rattle.answers.specs.Checks.{passed}
 use Rattle.answers.specs.Answers.{after}
-use Rattle.answers.proofs.Laws.{went_on}
+use Rattle.answers.proofs.Laws.{stopped, went_on, after_err}
 use Rattle.tables.specs.declared.Numbers.{Numbers}
 use Rattle.trgsw.specs.Parameters.{parameters, block_size}
 use Rattle.tables.specs.Numbers.{LawfulNumbers, table_size}
@@ -24,7 +27,7 @@ use Rattle.jobfile.proofs.Passed.{Passes, begins_words, refusal_held}
 
 -- ---- the numbers
 
-module _ (file : List ℕ) (x : Numbers) (e : file_refusal file ≡ 0) (h : x ≡ (read_job file).numbers) where
+module _ (file : List ℕ) (x : Numbers) (e : file_refusal file ≡ passed) (h : x ≡ (read_job file).numbers) where
   ok : Passes file
   ok = refusal_held file e
 
@@ -88,11 +91,11 @@ module _ (file : List ℕ) (x : Numbers) (w b : ℕ) (h : x ≡ (read_job file).
 -- ---- the answer
 
 -- Past the checks the answer is the lookup's.
-pub answer_lookup : (file : List ℕ) → file_refusal file ≡ 0 → job_answer file ≡ lookup (read_job file)
+pub answer_lookup : (file : List ℕ) → file_refusal file ≡ passed → job_answer file ≡ lookup (read_job file)
 unfolding job_answer
 answer_lookup file e = went_on (file_refusal file) _ e
 
-sample_lookup : (file : List ℕ) → file_refusal file ≡ 0 → job_sample file ≡ sample (read_job file)
+sample_lookup : (file : List ℕ) → file_refusal file ≡ passed → job_sample file ≡ sample (read_job file)
 unfolding job_sample
 sample_lookup file e = ap (λ a. after a (lookup_sample (read_job file)) []) (answer_lookup file e)
 
@@ -104,6 +107,13 @@ unfolding read_job
 same_job file x blocks amplitudes classes h eb ea ec = rw (h, eb, ea, ec)
 
 -- So what its lookup tells is what the file is answered.
-pub told : (file : List ℕ) (j : Job) (r : Outcome) → file_refusal file ≡ 0 → j ≡ read_job file → Gives r (lookup j) (sample j)
+pub told : (file : List ℕ) (j : Job) (r : Result Outcome Refusal) → file_refusal file ≡ passed → j ≡ read_job file → Gives r (lookup j) (sample j)
     → Gives r (job_answer file) (job_sample file)
 told file j r e same t = rw (answer_lookup file e, sample_lookup file e, ← same) t
+
+-- What the checks refuse is answered so, with no sample.
+pub refused : (file : List ℕ) (refusal : Refusal) → file_refusal file ≡ Err refusal → Gives (Err refusal) (job_answer file) (job_sample file)
+unfolding job_answer job_sample
+refused file refusal e =
+    let same = stopped (file_refusal file) refusal (lookup (read_job file)) e in
+    (same, after_err _ refusal _ _ (sym same))

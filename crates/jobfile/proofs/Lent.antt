@@ -1,18 +1,20 @@
 -- A lookup's answer and its sample, with other slices of the same lengths to write.
 -- Assumes nothing.
 use mathlib.Core.Path.{◌≡◌, sym, ap, ◌∙◌}
-use mathlib.Core.List.{List, [], ◌++◌}
+use mathlib.Core.List.{List, ◌++◌}
 use Prim.Native.Nat.{ℕ, ◌+◌, ◌*◌}
-use lib.ListN.{length, length-replicate}
+use lib.ListN.{length, take, length-replicate}
 use lib.Seq.{take_at}
+use Rattle.std.specs.Prelude.{Ok, Err}
 use Rattle.answers.specs.Answers.{number}
-use Rattle.answers.specs.declared.Answer.{Answer}
-use Rattle.answers.proofs.Laws.{after_written, after_refused}
+use Rattle.answers.specs.declared.Ledger.{Ledger}
+use Rattle.answers.specs.declared.Refusal.{Refusal}
+use Rattle.answers.proofs.Laws.{after_written, after_err}
 use Rattle.trgsw.specs.Parameters.{parameters, sample_size}
 use Rattle.tables.specs.declared.Numbers.{Numbers}
 use Rattle.lookup.specs.Job.{Job, public_job, lending}
 use Rattle.lookup.specs.Calls.{lookup, lookup_sample, IsAccepted}
-use Rattle.lookup.proofs.Lent.{lookup_length}
+use Rattle.lookup.proofs.Results.{lookup_length}
 use Rattle.jobfile.specs.File.{file_job}
 use Rattle.jobfile.specs.Reader.{Gives}
 use Rattle.jobfile.specs.Inner as Inner
@@ -42,18 +44,16 @@ module _ (x : Numbers) (blocks amplitudes classes sample work : List ℕ) (es : 
   lent = lookup_lent j _ _ (es ∙ sym (length-replicate _ 0)) (ew ∙ sym (length-replicate _ 0))
 
   -- A refused lookup tells no sample.
-  pub gives_refused : (a : Answer) (l : List ℕ) → a ≡ lookup j → (number a ≡ 0 → ⊥)
-      → Gives (record { answer = a; size = 0; sample = l }) (lookup roomy) (Inner.sample roomy)
-  gives_refused a l ea some =
-      let none : [] ≡ Inner.sample roomy = after_refused _ _ _ (λ z. some (ap number (ea ∙ lent) ∙ z)) in
-      record { answer = ea ∙ lent; size = ap length none; sample = none }
+  pub gives_refused : (r : Refusal) → lookup j ≡ Err r → Gives (Err r) (lookup roomy) (Inner.sample roomy)
+  gives_refused r e = let same = sym e ∙ lent in (same, after_err _ r _ _ (sym same))
 
   -- An accepted one tells the sample that it leaves at the front of the room.
-  pub gives_accepted : (n : ℕ) (a : Answer) (l rest : List ℕ) → n ≡ 4 * sample_size (parameters x.scheme) → a ≡ lookup j → l ≡ lookup_sample j
-      → number a ≡ 0 → Gives (record { answer = a; size = n; sample = l ++ rest }) (lookup roomy) (Inner.sample roomy)
-  gives_accepted n a l rest en ea el z =
-      let e : IsAccepted roomy = sym (ap number (ea ∙ lent)) ∙ z in
+  pub gives_accepted : (n : ℕ) (ledger : Ledger) (l rest bs : List ℕ) → n ≡ 4 * sample_size (parameters x.scheme) → lookup j ≡ Ok ledger
+      → l ≡ lookup_sample j → bs ≡ take n (l ++ rest)
+      → Gives (Ok (record { ledger = ledger; sample = record { items = bs } })) (lookup roomy) (Inner.sample roomy)
+  gives_accepted n ledger l rest bs en ea el eb =
+      let e : IsAccepted roomy = sym (ap number lent) ∙ ap number ea in
       let same : l ≡ Inner.sample roomy =
       el ∙ sample_lent j _ _ (es ∙ sym (length-replicate _ 0)) (ew ∙ sym (length-replicate _ 0)) e ∙ sym (after_written _ _ _ e) in
-      let size : length l ≡ n = ap length el ∙ lookup_length j (sym (ap number ea) ∙ z) ∙ sym en in
-      record { answer = ea ∙ lent; size = sym size ∙ ap length same; sample = take_at l rest n size ∙ same }
+      let size : length l ≡ n = ap length el ∙ lookup_length j (ap number ea) ∙ sym en in
+      (sym ea ∙ lent, eb ∙ take_at l rest n size ∙ same)

@@ -16,6 +16,7 @@ use Rattle.torus.specs.Bytes.{AreBytes, words, bytes}
 use Rattle.torus.proofs.Lists.{length_tabulate, tabulate_at, tabulate_cong, tabulate_self, tabulate_front, tabulate_below, drop_below}
 use Rattle.torus.proofs.Parts.{length_words, length_bytes, words_bytes, words_word, bytes_words, bytes_are}
 use Rattle.torus.proofs.Joined.{Each, chunk_inside, length_chunk, chunk_joined, length_joined, joined_cong, chunk_below, chunk_append, joined_below, joined_chunks}
+use Rattle.answers.specs.Checks.{passed}
 use Rattle.trgsw.specs.Parameters.{parameters, block_size}
 use Rattle.tables.specs.Numbers.{LawfulNumbers, table_size}
 use Rattle.trees.specs.LookedUp.{selector}
@@ -115,7 +116,7 @@ module _ (j : Job) (ok : Whole j) where
   }
 
   -- Nothing refuses it.
-  pub made_passes : LawfulNumbers j.numbers → length (job_file j) ≤ largest_file → file_refusal (job_file j) ≡ 0
+  pub made_passes : LawfulNumbers j.numbers → length (job_file j) ≤ largest_file → file_refusal (job_file j) ≡ passed
   made_passes lawful most = refusal_met (job_file j) (record {
     begins = record {
       least = omega (arith, made_size, depth_six (first_count (words (job_file j))));
@@ -178,7 +179,7 @@ module _ (b d : ℕ) (ws : List ℕ) (below : (i : ℕ) → get_or ws i 0 < 2 ^ 
   classes_below : (i : ℕ) → get_or (read_classes b d ws) i 0 < 2 ^ 32
   classes_below = drop_below (2 ^ 32) 1 (table_part b d ws) (drop_below (2 ^ 32) (d * (1 + b)) ws below)
 
-module _ (file : List ℕ) (e : file_refusal file ≡ 0) where
+module _ (file : List ℕ) (e : file_refusal file ≡ passed) where
   ok : Passes file
   ok = refusal_held file e
 
@@ -248,7 +249,7 @@ module _ (file : List ℕ) (e : file_refusal file ≡ 0) where
         }
 
 -- A well-formed file passes the checks, and reads back as the job that it is made of.
-pub well_formed_passes : (file : List ℕ) (w : WellFormed file) → (file_refusal file ≡ 0) × (read_job file ≡ w.job)
+pub well_formed_passes : (file : List ℕ) (w : WellFormed file) → (file_refusal file ≡ passed) × (read_job file ≡ w.job)
 well_formed_passes file w = (
   rw w.made (made_passes w.job w.whole w.lawful (rw w.made at w.fits)),
   ap read_job w.made ∙ read_made w.job w.whole,

@@ -6,22 +6,23 @@ use mathlib.Core.List.{List, []}
 use Prim.Native.Nat.{ℕ, zero, suc, ◌*◌, ◌/◌, ◌≤◌, ◌<◌}
 use native.Mathlib.Omega.{arith}
 use lib.Dec.{leb}
-use lib.ListN.{length, take, drop, length-take}
+use lib.ListN.{length, take, drop}
 use borrow.Author.Tests.{lt-leb}
 use Rattle.torus.specs.Bytes.{words}
-use Rattle.answers.specs.Answers.{number, ◌or_else◌}
-use Rattle.answers.specs.declared.Answer.{Answer}
-use Rattle.answers.specs.declared.Answer.TheVariants.{Refused}
-use Rattle.answers.proofs.Laws.{before, after_written, after_refused}
+use Rattle.std.specs.Prelude.{Ok, Err}
+use Rattle.answers.specs.Answers.{Answer, number, after}
+use Rattle.answers.specs.Checks.{passed}
+use Rattle.answers.specs.declared.Ledger.{Ledger}
+use Rattle.answers.specs.declared.Refusal.TheVariants as Refused
+use Rattle.answers.proofs.Laws.{before, after_written}
 use Rattle.trgsw.specs.Parameters.{masks}
 use Rattle.lookup.specs.Calls.{lookup, lookup_sample, IsAccepted}
-use Rattle.lookup.proofs.Lent.{lookup_length}
+use Rattle.lookup.proofs.Results.{lookup_length}
 use Rattle.report.specs.Report.{report, answer_lines}
 use Rattle.report.proofs.Lines.{report_refused}
 use Rattle.jobfile.specs.declared.layout.TheConstants.{SAMPLE_ROOM}
 use Rattle.jobfile.specs.Layout.{largest_file, first_count, header_words}
-use Rattle.jobfile.specs.declared.Outcome.{Outcome}
-use Rattle.jobfile.specs.Reader.{file_refusal, read_job, job_answer, job_sample, Gives}
+use Rattle.jobfile.specs.Reader.{file_refusal, read_job, job_answer, job_sample}
 use Rattle.jobfile.specs.Output.{output, Shows}
 use Rattle.jobfile.proofs.Passed.{refusal_held}
 
@@ -32,9 +33,15 @@ none_or_some (suc n) none some = some (λ e. omega arith)
 
 -- ---- the sample
 
+-- A refusal leaves none.
+none_after : (a : Answer) (written : List ℕ) → (number a ≡ 0 → ⊥) → [] ≡ after a written []
+unfolding after
+none_after (Ok x) written some = absurd (some refl)
+none_after (Err r) written some = refl
+
 module _ (file : List ℕ) where
   -- An accepted file has passed the checks, and so has its lookup.
-  pub accepted_lookup : number (job_answer file) ≡ 0 → (file_refusal file ≡ 0) × (IsAccepted (read_job file))
+  pub accepted_lookup : number (job_answer file) ≡ 0 → (file_refusal file ≡ passed) × (IsAccepted (read_job file))
   unfolding job_answer
   accepted_lookup e = before (file_refusal file) (lookup (read_job file)) e
 
@@ -53,7 +60,7 @@ module _ (file : List ℕ) where
 
   pub refused_sample : (number (job_answer file) ≡ 0 → ⊥) → [] ≡ job_sample file
   unfolding job_sample
-  refused_sample some = after_refused (job_answer file) _ _ some
+  refused_sample some = none_after (job_answer file) _ some
 
   pub sample_size : (8 * (length (job_sample file) / 8) ≡ length (job_sample file)) × (length (job_sample file) ≤ SAMPLE_ROOM)
   sample_size =
@@ -78,28 +85,24 @@ module _ (file : List ℕ) where
       (λ some. report_refused (job_answer file) _ _ some ∙ sym (report_refused (job_answer file) _ _ some)))
 
   -- A file "over 65,536 bytes" is refused with 5, whatever it holds.
-  pub long_answer : largest_file < length file → job_answer file ≡ Refused 5
-  unfolding job_answer file_refusal ◌or_else◌
+  pub long_answer : largest_file < length file → job_answer file ≡ Err Refused.Length
+  unfolding job_answer file_refusal
   long_answer h =
       simp (lt-leb (length file) largest_file h, and-false (leb (4 * header_words (first_count (words file))) (length file)))
 
-  pub long_output : largest_file < length file → output file ≡ answer_lines (Refused 5)
+  pub long_output : largest_file < length file → output file ≡ answer_lines (Err Refused.Length)
   long_output h =
       let e = long_answer h in
       output_refused (λ z. let five : ◌≡◌ {A = ℕ} 5 0 = sym (ap number e) ∙ z in omega arith) ∙ ap answer_lines e
 
 -- ---- what is shown of a file
 
--- What the reader gives stands in its room.
-pub gives_within : (r : Outcome) (a : Answer) (bs : List ℕ) → Gives r a bs → r.size ≤ length r.sample
-gives_within r a bs t = omega (arith, length-take r.size r.sample, ap length t.sample, t.size)
-
 -- The answer 5 is the output for every file that is too large.
 pub shows_long : (file mask body room : List ℕ) (size : ℕ) → largest_file < length file
-    → Shows room size (report (Refused 5) mask body) → Shows room size (output file)
+    → Shows room size (report (Err Refused.Length) mask body) → Shows room size (output file)
 shows_long file mask body room size long shown =
-    let five : number (Refused 5) ≡ 0 → ⊥ = λ z. omega arith in
-    rw (long_output file long, ← report_refused (Refused 5) mask body five) shown
+    let five : number {T = Ledger} (Err Refused.Length) ≡ 0 → ⊥ = λ z. omega arith in
+    rw (long_output file long, ← report_refused (Err Refused.Length) mask body five) shown
 
 -- The text of the file's answer and sample is its output.
 pub shows_whole : (file s : List ℕ) (a : Answer) (room : List ℕ) (size : ℕ) → a ≡ job_answer file → s ≡ job_sample file

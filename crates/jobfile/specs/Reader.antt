@@ -1,11 +1,13 @@
 -- The job in a file, and what the program answers: the whole answer and the sample, for every byte string.
 -- Assumes nothing.
-use Rattle.std.specs.Prelude.{◌≡◌, true, cond, ◌&&◌, List, [], ℕ, ◌+◌, ◌*◌, ◌%◌, ◌≤◌, eqb, leb, length, get_or, take, drop}
+use Rattle.std.specs.Prelude.{◌≡◌, true, ◌&&◌, Result, Ok, Err, List, [], ℕ, ◌+◌, ◌*◌, ◌%◌, ◌≤◌, eqb, leb, length, get_or, drop}
 use Rattle.torus.specs.Sum.{tabulate, joined, chunk}
 use Rattle.torus.specs.Bytes.{words, bytes}
+use Rattle.answers.specs.Checks.{Checked, ◌or_else◌}
 use Rattle.answers.specs.Checks as Check
-use Rattle.answers.specs.Answers.{◌or_else◌, after}
-use Rattle.answers.specs.declared.Answer.{Answer}
+use Rattle.answers.specs.Answers.{Answer, after}
+use Rattle.answers.specs.declared.Refusal.{Refusal}
+use Rattle.answers.specs.declared.Refusal.TheVariants as Refused
 use Rattle.tables.specs.declared.Numbers.{Numbers}
 use Rattle.trgsw.specs.Parameters.{parameters, block_size}
 use Rattle.tables.specs.Numbers.{table_size, numbers}
@@ -49,10 +51,10 @@ read_job file =
 -- ---- refusals
 
 -- "A file under 28 or over 65,536 bytes, of a length not divisible by four, or whose first word is not 5 answers 5 before anything else."
-abbrev pub beginning : (file : List ℕ) → ℕ
+abbrev pub beginning : (file : List ℕ) → Checked
 beginning file =
     let c = first_count (words file) in
-    cond (leb (4 * header_words c) (length file) && (leb (length file) largest_file && (eqb (length file % 4) 0 && is_first_count c))) 0 5
+    Check.unless (leb (4 * header_words c) (length file) && (leb (length file) largest_file && (eqb (length file % 4) 0 && is_first_count c))) Refused.Length
 
 -- The same as a statement: the file begins as a job file does.
 pub record Begins (file : List ℕ) : Type 0 where
@@ -66,17 +68,17 @@ abbrev pub file_size : (c : ℕ) → Numbers → ℕ
 file_size c x = header_words c + x.d * (1 + block_size (parameters x.scheme)) + (1 + table_size x)
 
 -- "then 5 for any other wrong length or section three count"
-abbrev pub table_count : (x : Numbers) (file : List ℕ) → ℕ
-table_count x file = cond (eqb (get_or (table_part (block_size (parameters x.scheme)) x.d (behind file)) 0 0) (table_size x)) 0 5
+abbrev pub table_count : (x : Numbers) (file : List ℕ) → Checked
+table_count x file = Check.unless (eqb (get_or (table_part (block_size (parameters x.scheme)) x.d (behind file)) 0 0) (table_size x)) Refused.Length
 
-abbrev pub sections : (x : Numbers) (file : List ℕ) → ℕ
-sections x file = Check.first (Check.exact (length file) (file_size (first_count (words file)) x)) (table_count x file)
+abbrev pub sections : (x : Numbers) (file : List ℕ) → Checked
+sections x file = Check.exact (length file) (file_size (first_count (words file)) x) or_else table_count x file
 
--- What refuses a file before its lookup begins, or 0: its beginning, then "Refusals 1 to 4 follow", then its sections.
-unfoldable pub file_refusal : (file : List ℕ) → ℕ
+-- What refuses a file before its lookup begins: its beginning, then "Refusals 1 to 4 follow", then its sections.
+unfoldable pub file_refusal : (file : List ℕ) → Checked
 file_refusal file =
     let x = (read_job file).numbers in
-    Check.first (beginning file) (Check.first (numbers x) (sections x file))
+    beginning file or_else numbers x or_else sections x file
 
 -- ---- the answer and the sample
 
@@ -88,8 +90,7 @@ job_answer file = file_refusal file or_else lookup (read_job file)
 unfoldable pub job_sample : (file : List ℕ) → List ℕ
 job_sample file = after (job_answer file) (lookup_sample (read_job file)) []
 
--- What the reader gives tells an answer and the bytes of a sample. What stands behind them in its room is free.
-pub record Gives (r : Outcome) (a : Answer) (bs : List ℕ) : Type 0 where
-  pub answer : r.answer ≡ a
-  pub size : r.size ≡ length bs
-  pub sample : take r.size r.sample ≡ bs
+-- What the reader gives tells an answer and the bytes of a sample, of which a refused file has none.
+abbrev pub Gives : (r : Result Outcome Refusal) (a : Answer) (bs : List ℕ) → Type 0
+Gives (Ok x) a bs = (Ok x.ledger ≡ a) × (x.sample.items ≡ bs)
+Gives (Err refusal) a bs = (Err refusal ≡ a) × ([] ≡ bs)

@@ -1,13 +1,15 @@
 // The checks that a file must pass before its lookup begins, and its numbers.
-ghost use Rattle.std.specs.Prelude.{◌≡◌, ◌+◌, ◌*◌, ◌≤◌, length, get_or};
-ghost use Rattle.torus.specs.Bytes.{words};
-ghost use Rattle.tables.specs.Numbers.{LawfulNumbers};
+ghost use Rattle.std.specs.Prelude.{◌≡◌, ◌+◌, ◌*◌, ◌≤◌, Err, length, get_or};
+ghost use Rattle.std.specs.Result.{MatchResult};
+ghost use Rattle.torus.specs.Bytes.{AreBytes, words};
+ghost use Rattle.answers.specs.Checks.{passed};
 ghost use Rattle.jobfile.specs.Layout as Layout;
 ghost use Rattle.jobfile.specs.File.{file_packing};
 ghost use Rattle.jobfile.specs.Reader as Reader;
 
 use crate::layout;
-use tables::{Numbers, Packing, Visibility};
+use answers::{Checked, Refusal};
+use tables::{Lawful, Numbers, Packing, Visibility};
 
 // Word i of the file.
 fn number_at(file: &[u8], i: usize) -> u64
@@ -34,25 +36,18 @@ pub fn header_words(file: &[u8]) -> usize
 }
 
 // 5, before anything else: the length and the first count.
-fn beginning(file: &[u8]) -> u32
+fn beginning(file: &[u8]) -> Checked
     ensures { result ≡ Reader.beginning file.now }
 {
-    if file.len() < 4 {
-        return 5;
+    if file.len() < 4
+        || file.len() / 4 < header_words(file)
+        || layout::LARGEST_FILE < file.len()
+        || file.len() % 4 != 0
+        || !layout::is_first_count(torus::word_at(file, 0))
+    {
+        return Err(Refusal::Length);
     }
-    if file.len() / 4 < header_words(file) {
-        return 5;
-    }
-    if layout::LARGEST_FILE < file.len() {
-        return 5;
-    }
-    if file.len() % 4 != 0 {
-        return 5;
-    }
-    if !layout::is_first_count(torus::word_at(file, 0)) {
-        return 5;
-    }
-    0
+    Ok(())
 }
 
 // The packing of a file's job: the vertical one where s is 1 and d is above 10.
@@ -60,12 +55,11 @@ fn beginning(file: &[u8]) -> u32
 fn file_packing(s: u64, d: u64) -> Packing
     ensures { result ≡ file_packing s d }
 {
-    if s == 1 {
-        if tables::HORIZONTAL_SELECTORS < d {
-            return Packing::Vertical;
-        }
+    if s == 1 && tables::HORIZONTAL_SELECTORS < d {
+        Packing::Vertical
+    } else {
+        Packing::Horizontal
     }
-    Packing::Horizontal
 }
 
 // The numbers of section one and d behind them, and the packing that they give.
@@ -82,7 +76,7 @@ pub fn read_numbers(file: &[u8]) -> Numbers
     Numbers {
         packing: file_packing(s, d),
         visibility: Visibility::Public,
-        scheme: trgsw::scheme_of(n, g, l),
+        scheme: trgsw::Scheme::new(n, g, l),
         M: m,
         s,
         d,
@@ -90,34 +84,39 @@ pub fn read_numbers(file: &[u8]) -> Numbers
 }
 
 // 5, for any other length or count of section three.
-fn check_sections(file: &[u8], x: Numbers) -> u32
-    requires { (Reader.Begins file.now) × (LawfulNumbers x) }
-    ensures { result ≡ Reader.sections x file.now }
+fn check_sections(file: &[u8], x: Lawful) -> Checked
+    requires { Reader.Begins file.now }
+    ensures { result ≡ Reader.sections x.numbers file.now }
 {
-    let selectors = header_words(file) as u64 + x.d * (1 + tables::block_size(x));
-    let classes = tables::table_size(x);
-    if file.len() as u64 != 4 * (selectors + 1 + classes) {
-        return 5;
-    }
+    let selectors = header_words(file) as u64 + x.numbers.d * (1 + x.block_size());
+    let classes = x.table_size();
+    answers::exact(file.len(), selectors + 1 + classes)?;
     let count = number_at(file, selectors as usize);
     if count != classes {
-        return 5;
+        return Err(Refusal::Length);
     }
-    0
+    Ok(())
 }
 
-// What refuses a file before its lookup begins, or 0.
-pub fn refusal(file: &[u8]) -> u32
-    ensures { result ≡ Reader.file_refusal file.now }
-{
-    let begun = beginning(file);
-    if begun != 0 {
-        return begun;
+// A file that passes the checks, and its numbers.
+#[derive(Clone, Copy)]
+pub struct JobFile<'a> {
+    pub bytes: &'a [u8],
+    pub numbers: Lawful,
+    pub ghost of_bytes: { AreBytes bytes.now },
+    pub ghost passes: { Reader.file_refusal bytes.now ≡ passed },
+    pub ghost read: { numbers.numbers ≡ (Reader.read_job bytes.now).numbers },
+}
+
+impl<'a> JobFile<'a> {
+    // A file, or what refuses it before its lookup begins.
+    #[tactic(auto, unfolding(crate::specs::Reader::file_refusal))]
+    pub fn read(bytes: &'a [u8]) -> Result<JobFile<'a>, Refusal>
+        ensures { MatchResult result (λ file. file.bytes.now ≡ bytes.now) (λ refusal. Reader.file_refusal bytes.now ≡ Err refusal) }
+    {
+        beginning(bytes)?;
+        let numbers = read_numbers(bytes).lawful()?;
+        check_sections(bytes, numbers)?;
+        Ok(JobFile { bytes, numbers })
     }
-    let x = read_numbers(file);
-    let unlawful = tables::checks::check_numbers(x);
-    if unlawful != 0 {
-        return unlawful;
-    }
-    check_sections(file, x)
 }

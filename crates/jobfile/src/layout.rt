@@ -1,6 +1,6 @@
 // The limit and the layout of a job file, as in specs/Layout.antt, and the rooms for what a file can hold: their sizes, in bytes, follow
 // from a few limits.
-ghost use Rattle.std.specs.Prelude.{◌≡◌, ◌≤◌};
+ghost use Rattle.std.specs.Prelude.{◌≡◌, ◌≤◌, length};
 ghost use Rattle.jobfile.specs.Layout as Layout;
 
 // The bytes of the largest file.
@@ -22,15 +22,22 @@ pub const AMPLITUDES_ROOM: usize = 4 * tables::VERTICAL_SELECTORS as usize;
 // digits in all of them.
 pub const TEXT_ROOM: usize = 82 + 47 * (SAMPLE_ROOM / 4);
 
+// Room for N bytes. A function, so that a proof sees its length and not its bytes.
+pub fn room<const N: usize>() -> [u8; N]
+    ensures { N ≡ length result }
+{
+    [0; N]
+}
+
 // Whether section one may have this count.
-pub fn is_first_count(count: u32) -> bool
+pub(crate) fn is_first_count(count: u32) -> bool
     ensures { result ≡ Layout.is_first_count count }
 {
     count == 5
 }
 
 // The place of the count d.
-pub fn depth_at(count: u32) -> usize
+pub(crate) fn depth_at(count: u32) -> usize
     ensures { (result ≡ Layout.depth_at count) × (result ≤ 6) }
 {
     let numbers = if is_first_count(count) {
@@ -42,7 +49,7 @@ pub fn depth_at(count: u32) -> usize
 }
 
 // The words of the header.
-pub fn header_words(count: u32) -> usize
+pub(crate) fn header_words(count: u32) -> usize
     ensures { result ≡ Layout.header_words count }
 {
     1 + depth_at(count)

@@ -4,7 +4,7 @@ ghost use Rattle.std.specs.Prelude.{◌≡◌, Bool, Option, Some, List, ℕ, �
 ghost use Rattle.jobfile.specs.Layout.{largest_file};
 ghost use Rattle.jobfile.specs.Streams as Streams;
 
-use crate::layout::TEXT_ROOM;
+use crate::layout::{TEXT_ROOM, room};
 use crate::text;
 
 // Where bytes come from. What it has left is known of some sources alone.
@@ -56,7 +56,7 @@ pub fn run<I: Source, O: Sink>(source: &mut I, sink: &mut O, file: &mut [u8]) ->
     requires { length file.old ≡ largest_file }
     ensures { (text : List ℕ) × Streams.IsOutput (I.left source.old) text × O.wrote sink.old text result sink.new }
 {
-    let mut room = text::text_room();
+    let mut room = room::<TEXT_ROOM>();
     let size = answer(source, &mut room, file);
     sink.write(&room[0..size])
 }

@@ -2,118 +2,58 @@
 // size.
 #![tactic(auto)]
 
-ghost use Rattle.std.specs.Prelude.{◌+◌, ◌*◌, ◌<◌, ◌≤◌, length};
-ghost use Rattle.butterflies.specs.Butterflies.{Below, Prepared, DownLevel, UpLevel};
+ghost use Rattle.std.specs.Prelude.{◌≡◌, ◌+◌, ◌*◌, ◌<◌, ◌≤◌, length, get_or};
+ghost use Rattle.butterflies.specs.Butterflies.{Below, Prepared, WayLevel};
 
-// ---- the way down
+use butterflies::{Factor, Way};
 
-// A level of m nodes of 2·h elements each.
-fn level_of_passes(a: &mut [u32], m: usize, h: usize, t: &[u32], q: &[u32], p: u32)
-    requires { (0 < m) × (m * (h + h) ≤ length a.old) × Prepared p m t.now q.now × Below (4 * p) a.old }
-    ensures { DownLevel p m h t.now a.old a.new × Below (4 * p) a.new }
+// The factors of a level of m nodes and their quotients: entries m to 2·m - 1 of two lent tables. They are two, and not one of pairs, since
+// the rule of the tree is said of the list of roots alone.
+#[derive(Clone, Copy)]
+pub struct Factors<'a> {
+    pub p: u32,
+    pub m: usize,
+    pub roots: &'a [u32],
+    pub quotients: &'a [u32],
+    pub ghost prepared: { Prepared p m roots.now quotients.now },
+}
+
+impl<'a> Factors<'a> {
+    // The factor of node j.
+    fn of_node<W: Way>(&self, j: usize) -> Factor
+        requires { j < self.now.m }
+        ensures { (result.p ≡ self.now.p) × (result.w ≡ get_or self.now.roots.now (self.now.m + W.turn self.now.m j) 0) }
+    {
+        let i = self.m + W::order(self.m, j);
+        Factor {
+            w: self.roots[i],
+            v: self.quotients[i],
+            p: self.p,
+        }
+    }
+}
+
+// A level of nodes of 2·h elements each.
+#[inline(always)]
+fn level_of_passes<W: Way>(a: &mut [u32], h: usize, factors: &Factors)
+    requires { (let f = factors.now in (0 < f.m) × (f.m * (h + h) ≤ length a.old) × Below (W.top f.p) a.old) }
+    ensures { (let f = factors.now in WayLevel W.low W.high W.turn f.p f.m h f.roots.now a.old a.new × Below (W.top f.p) a.new) }
 {
-    let mut j: usize = 0;
     let l = h + h;
-    while j < m {
-        butterflies::pass(a, j * l, h, t[m + j], q[m + j], p);
-        j += 1;
+    for j in 0..factors.m {
+        butterflies::pass::<W>(a, j * l, h, factors.of_node::<W>(j));
     }
 }
 
-// The last level: nodes of two elements. In one loop, since a pass over so few costs more than its butterflies.
-fn level_of_pairs(a: &mut [u32], m: usize, t: &[u32], q: &[u32], p: u32)
-    requires { (m * 2 ≤ length a.old) × Prepared p m t.now q.now × Below (4 * p) a.old }
-    ensures { DownLevel p m 1 t.now a.old a.new × Below (4 * p) a.new }
+// The same, by the fastest loop for the size of the nodes. A pass over two or four elements costs more than its butterflies: of a level of
+// such nodes, whose size it is told, the compiler makes one loop.
+pub fn level<W: Way>(a: &mut [u32], h: usize, factors: &Factors)
+    requires { (let f = factors.now in (0 < f.m) × (f.m * (h + h) ≤ length a.old) × Below (W.top f.p) a.old) }
+    ensures { (let f = factors.now in WayLevel W.low W.high W.turn f.p f.m h f.roots.now a.old a.new × Below (W.top f.p) a.new) }
 {
-    let mut j: usize = 0;
-    while j < m {
-        butterflies::butterfly(a, 2 * j, 1, t[m + j], q[m + j], p);
-        j += 1;
+    match h {
+        1 => level_of_passes::<W>(a, 1, factors),
+        2 => level_of_passes::<W>(a, 2, factors),
+        _ => level_of_passes::<W>(a, h, factors),
     }
-}
-
-// The level before it: nodes of four elements.
-fn level_of_fours(a: &mut [u32], m: usize, t: &[u32], q: &[u32], p: u32)
-    requires { (m * 4 ≤ length a.old) × Prepared p m t.now q.now × Below (4 * p) a.old }
-    ensures { DownLevel p m 2 t.now a.old a.new × Below (4 * p) a.new }
-{
-    let mut j: usize = 0;
-    while j < m {
-        butterflies::pass_of_four(a, 4 * j, t[m + j], q[m + j], p);
-        j += 1;
-    }
-}
-
-// A level of m nodes, by the fastest loop for its size.
-pub fn level(a: &mut [u32], m: usize, h: usize, t: &[u32], q: &[u32], p: u32)
-    requires { (0 < m) × (m * (h + h) ≤ length a.old) × Prepared p m t.now q.now × Below (4 * p) a.old }
-    ensures { DownLevel p m h t.now a.old a.new × Below (4 * p) a.new }
-{
-    if h == 1 {
-        level_of_pairs(a, m, t, q, p);
-        return;
-    }
-    if h == 2 {
-        level_of_fours(a, m, t, q, p);
-        return;
-    }
-    level_of_passes(a, m, h, t, q, p);
-}
-
-// ---- the way up
-
-// A level of m nodes of 2·h elements each. The factors are taken from the last one on.
-fn level_back_of_passes(a: &mut [u32], m: usize, h: usize, t: &[u32], q: &[u32], p: u32)
-    requires { (0 < m) × (m * (h + h) ≤ length a.old) × Prepared p m t.now q.now × Below (p + p) a.old }
-    ensures { UpLevel p m h t.now a.old a.new × Below (p + p) a.new }
-{
-    let mut j: usize = 0;
-    let l = h + h;
-    while j < m {
-        let i = m + (m - 1 - j);
-        butterflies::pass_back(a, j * l, h, t[i], q[i], p);
-        j += 1;
-    }
-}
-
-// Nodes of two elements, in one loop.
-fn level_back_of_pairs(a: &mut [u32], m: usize, t: &[u32], q: &[u32], p: u32)
-    requires { (m * 2 ≤ length a.old) × Prepared p m t.now q.now × Below (p + p) a.old }
-    ensures { UpLevel p m 1 t.now a.old a.new × Below (p + p) a.new }
-{
-    let mut j: usize = 0;
-    while j < m {
-        let i = m + (m - 1 - j);
-        butterflies::butterfly_back(a, 2 * j, 1, t[i], q[i], p);
-        j += 1;
-    }
-}
-
-// Nodes of four elements, in one loop.
-fn level_back_of_fours(a: &mut [u32], m: usize, t: &[u32], q: &[u32], p: u32)
-    requires { (m * 4 ≤ length a.old) × Prepared p m t.now q.now × Below (p + p) a.old }
-    ensures { UpLevel p m 2 t.now a.old a.new × Below (p + p) a.new }
-{
-    let mut j: usize = 0;
-    while j < m {
-        let i = m + (m - 1 - j);
-        butterflies::pass_back_of_four(a, 4 * j, t[i], q[i], p);
-        j += 1;
-    }
-}
-
-// A level of m nodes, by the fastest loop for its size.
-pub fn level_back(a: &mut [u32], m: usize, h: usize, t: &[u32], q: &[u32], p: u32)
-    requires { (0 < m) × (m * (h + h) ≤ length a.old) × Prepared p m t.now q.now × Below (p + p) a.old }
-    ensures { UpLevel p m h t.now a.old a.new × Below (p + p) a.new }
-{
-    if h == 1 {
-        level_back_of_pairs(a, m, t, q, p);
-        return;
-    }
-    if h == 2 {
-        level_back_of_fours(a, m, t, q, p);
-        return;
-    }
-    level_back_of_passes(a, m, h, t, q, p);
 }

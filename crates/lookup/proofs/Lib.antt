@@ -3,4 +3,4 @@ pub mod Accepted
 pub mod Charges
 pub mod Runs
 pub mod Public
-pub mod Lent
+pub mod Results

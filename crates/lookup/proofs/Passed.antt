@@ -1,6 +1,6 @@
 -- What a lookup's checks tell of its arguments when they pass, and back.
 -- Assumes nothing.
-use mathlib.Core.Path.{◌≡◌, ap, ◌∙◌}
+use mathlib.Core.Path.{◌≡◌}
 use mathlib.Core.List.{List}
 use Prim.Native.Nat.{ℕ, ◌+◌, ◌*◌, ◌^◌, ◌≤◌, ◌<◌}
 use native.Mathlib.Omega.{arith}
@@ -8,17 +8,19 @@ use lib.Dec.{eqb}
 use lib.ListN.{length, get_or}
 use Rattle.torus.specs.Bytes.{words}
 use Rattle.torus.proofs.Parts.{length_words}
+use Rattle.answers.specs.Checks.{passed, ◌or_else◌}
 use Rattle.answers.specs.Checks as Check
-use Rattle.answers.specs.Answers.{◌or_else◌, noise}
-use Rattle.answers.proofs.Laws.{first_none, first_met, first_or_else, triple_or_else, five_or_else, check_other, first_other, exact_held, exact_met, amplitudes_held, amplitudes_met}
-use Rattle.trgsw.specs.Parameters.{parameters, scheme_refusal, sample_size, block_size}
-use Rattle.tables.specs.Numbers.{table_words, declared_words, gate_count, most_classes, most_selectors, numbers}
+use Rattle.answers.specs.Answers.{number, noise}
+use Rattle.answers.specs.declared.Refusal.TheVariants as Refused
+use Rattle.answers.proofs.Laws.{both_passed, both_pass, or_else_assoc, check_other, first_other, exact_held, exact_met, amplitudes_held, amplitudes_met}
+use Rattle.trgsw.specs.Parameters.{parameters, sample_size, block_size}
+use Rattle.tables.specs.Numbers.{table_words, declared_words, gate_count, numbers}
 use Rattle.lookup.specs.Job.{Job}
 use Rattle.tables.specs.Table.{classes_of}
 use Rattle.tables.specs.Inner.{Below}
 use Rattle.tables.proofs.Passed.{classes_of_held, classes_of_met, classes_of_other}
 use Rattle.lookup.specs.Calls.{noise_bound, lookup}
-use Rattle.lookup.specs.Inner.{lengths, contents}
+use Rattle.lookup.specs.Inner.{lengths, contents, checks}
 
 -- ---- the lengths of the slices
 
@@ -37,15 +39,15 @@ pub record Contents (j : Job) : Type 0 where
   pub below : Below j.numbers j.table
 
 module _ (j : Job) where
-  pub lengths_held : lengths j ≡ 0 → Lengths j
+  pub lengths_held : lengths j ≡ passed → Lengths j
   lengths_held e =
       let x = j.numbers in
       let p = parameters x.scheme in
-      let blocks = first_none (Check.exact (length j.blocks) (x.d * block_size p)) _ e in
-      let amplitudes = first_none (Check.exact (length j.amplitudes) x.d) _ blocks.1 in
-      let table = first_none (Check.exact (length j.table) (table_words x.visibility x)) _ amplitudes.1 in
-      let declared = first_none (Check.exact (length j.entry_amplitudes) (declared_words x.visibility x)) _ table.1 in
-      let written = first_none (Check.exact (length j.sample) (sample_size p)) (Check.exact (length j.work) (sample_size p * (x.d + 1))) declared.1 in
+      let blocks = both_passed (Check.exact (length j.blocks) (x.d * block_size p)) _ e in
+      let amplitudes = both_passed (Check.exact (length j.amplitudes) x.d) _ blocks.1 in
+      let table = both_passed (Check.exact (length j.table) (table_words x.visibility x)) _ amplitudes.1 in
+      let declared = both_passed (Check.exact (length j.entry_amplitudes) (declared_words x.visibility x)) _ table.1 in
+      let written = both_passed (Check.exact (length j.sample) (sample_size p)) (Check.exact (length j.work) (sample_size p * (x.d + 1))) declared.1 in
       record {
         blocks_length = exact_held _ _ blocks.0;
         amplitudes_length = exact_held _ _ amplitudes.0;
@@ -55,60 +57,53 @@ module _ (j : Job) where
         work_length = exact_held _ _ written.1;
       }
 
-  pub lengths_met : Lengths j → lengths j ≡ 0
+  pub lengths_met : Lengths j → lengths j ≡ passed
   lengths_met ok =
-      first_met _ _ (exact_met _ _ ok.blocks_length) (first_met _ _ (exact_met _ _ ok.amplitudes_length)
-      (first_met _ _ (exact_met _ _ ok.table_length) (first_met _ _ (exact_met _ _ ok.entry_amplitudes_length)
-      (first_met _ _ (exact_met _ _ ok.sample_length) (exact_met _ _ ok.work_length)))))
+      both_pass _ _ (exact_met _ _ ok.blocks_length) (both_pass _ _ (exact_met _ _ ok.amplitudes_length)
+      (both_pass _ _ (exact_met _ _ ok.table_length) (both_pass _ _ (exact_met _ _ ok.entry_amplitudes_length)
+      (both_pass _ _ (exact_met _ _ ok.sample_length) (exact_met _ _ ok.work_length)))))
 
-  pub lengths_other : lengths j ≡ 9 → ⊥
+  pub lengths_other : number (lengths j) ≡ 9 → ⊥
   lengths_other =
-      let five : (length words : ℕ) → Check.exact length words ≡ 9 → ⊥ = λ length words. check_other (eqb length (4 * words)) 5 9 (omega arith) (λ e. omega arith) in
+      let five : (length words : ℕ) → number (Check.exact length words) ≡ 9 → ⊥ = λ length words. check_other (eqb length (4 * words)) Refused.Length 9 (omega arith) (λ e. omega arith) in
       first_other _ _ 9 (five (length j.blocks) _) (first_other _ _ 9 (five (length j.amplitudes) _)
       (first_other _ _ 9 (five (length j.table) _) (first_other _ _ 9 (five (length j.entry_amplitudes) _)
       (first_other _ _ 9 (five (length j.sample) _) (five (length j.work) _)))))
 
   -- ---- the words in them
 
-  pub contents_held : Lengths j → contents j ≡ 0 → Contents j
+  pub contents_held : Lengths j → contents j ≡ passed → Contents j
   contents_held fit e =
-      let selectors = first_none (Check.amplitudes (words j.amplitudes)) _ e in
-      let table = first_none (Check.amplitudes (words j.entry_amplitudes)) (classes_of j.numbers.visibility j.numbers.M (words j.table)) selectors.1 in
+      let selectors = both_passed (Check.amplitudes (words j.amplitudes)) _ e in
+      let table = both_passed (Check.amplitudes (words j.entry_amplitudes)) (classes_of j.numbers.visibility j.numbers.M (words j.table)) selectors.1 in
       record {
         small = λ i l. amplitudes_held (words j.amplitudes) selectors.0 i (omega (arith, length_words j.amplitudes, fit.amplitudes_length));
         entries_small = amplitudes_held (words j.entry_amplitudes) table.0;
         below = classes_of_held j.numbers.visibility j.numbers.M (words j.table) table.1;
       }
 
-  pub contents_met : Lengths j → Contents j → contents j ≡ 0
+  pub contents_met : Lengths j → Contents j → contents j ≡ passed
   contents_met fit ok =
-      first_met _ _
+      both_pass _ _
       (amplitudes_met (words j.amplitudes) (λ i l. ok.small i (omega (arith, length_words j.amplitudes, fit.amplitudes_length))))
-      (first_met _ _ (amplitudes_met (words j.entry_amplitudes) ok.entries_small)
+      (both_pass _ _ (amplitudes_met (words j.entry_amplitudes) ok.entries_small)
       (classes_of_met j.numbers.visibility j.numbers.M (words j.table) ok.below))
 
-  pub contents_other : contents j ≡ 9 → ⊥
+  pub contents_other : number (contents j) ≡ 9 → ⊥
   contents_other =
-      let six : (ws : List ℕ) → Check.amplitudes ws ≡ 9 → ⊥ = λ ws. check_other (Check.all_below (2 ^ 31 + 1) ws) 6 9 (omega arith) (λ e. omega arith) in
+      let six : (ws : List ℕ) → number (Check.amplitudes ws) ≡ 9 → ⊥ = λ ws. check_other (Check.all_below (2 ^ 31 + 1) ws) Refused.Amplitude 9 (omega arith) (λ e. omega arith) in
       first_other _ _ 9 (six (words j.amplitudes))
       (first_other _ _ 9 (six (words j.entry_amplitudes)) (classes_of_other j.numbers.visibility j.numbers.M (words j.table)))
 
 -- ---- the whole answer
 
--- The rows of the call's answer, taken together as the code takes them.
+-- The rows of the call's answer, taken together in three groups,
 pub lookup_checks : (j : Job) → let x = j.numbers in
     (numbers x or_else lengths j or_else contents j or_else noise x.M (noise_bound j) (gate_count x)) ≡ lookup j
 unfolding lookup
-lookup_checks j =
-    let x = j.numbers in
-    let p = parameters x.scheme in
-    let six = triple_or_else (Check.amplitudes (words j.amplitudes)) (Check.amplitudes (words j.entry_amplitudes)) (classes_of x.visibility x.M (words j.table)) in
-    let blocks : ℕ = Check.exact (length j.blocks) (x.d * block_size p) in
-    let scheme : ℕ = scheme_refusal x.scheme in
-    ap (λ a. numbers x or_else lengths j or_else a) (six _)
-    ∙ ap (λ a. numbers x or_else a) (first_or_else blocks _ _ ∙ ap (λ a. blocks or_else a)
-    (five_or_else (Check.exact (length j.amplitudes) x.d) (Check.exact (length j.table) (table_words x.visibility x))
-    (Check.exact (length j.entry_amplitudes) (declared_words x.visibility x)) (Check.exact (length j.sample) (sample_size p))
-    (Check.exact (length j.work) (sample_size p * (x.d + 1))) _))
-    ∙ first_or_else scheme _ _
-    ∙ ap (λ a. scheme or_else a) (triple_or_else (Check.class_number x.M) (Check.count (most_classes x.packing x.scheme.N) x.s) (Check.depth (most_selectors x.packing) x.d) _)
+lookup_checks j = simp or_else_assoc
+
+-- and in one, as the code takes them.
+pub lookup_judged : (j : Job) → (checks j or_else noise j.numbers.M (noise_bound j) (gate_count j.numbers)) ≡ lookup j
+unfolding lookup
+lookup_judged j = simp or_else_assoc

@@ -3,9 +3,9 @@
 -- Assumes nothing.
 use Rattle.std.specs.Prelude.{◌≡◌, List, ℕ, ◌+◌, ◌*◌, length, replicate}
 use Rattle.torus.specs.Bytes.{words, bytes}
+use Rattle.answers.specs.Checks.{◌or_else◌}
 use Rattle.answers.specs.Checks as Check
-use Rattle.answers.specs.Answers.{◌or_else◌, number, noise, after}
-use Rattle.answers.specs.declared.Answer.{Answer}
+use Rattle.answers.specs.Answers.{Answer, number, noise, after}
 use Rattle.trgsw.specs.Parameters.{scheme_refusal, sample_size, block_size, parameters}
 use Rattle.tables.specs.Numbers.{rotations, gate_count, table_words, declared_words, most_classes, most_selectors}
 use Rattle.lookup.specs.Job.{Job}

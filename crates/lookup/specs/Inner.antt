@@ -3,15 +3,17 @@
 -- Assumes nothing.
 use Rattle.std.specs.Prelude.{◌≡◌, List, ℕ, suc, ◌+◌, ◌*◌, ◌^◌, ◌≤◌, ◌<◌, length, get_or}
 use Rattle.torus.specs.Bytes.{words}
+use Rattle.answers.specs.Checks.{Checked, ◌or_else◌}
 use Rattle.answers.specs.Checks as Check
 use Rattle.trgsw.specs.Parameters.{sample_size, block_size, parameters}
 use Rattle.tables.specs.declared.Numbers.{Numbers}
-use Rattle.tables.specs.Numbers.{LawfulNumbers, deepest, rotations, table_words, declared_words}
+use Rattle.tables.specs.Numbers.{LawfulNumbers, numbers, deepest, rotations, table_words, declared_words}
 use Rattle.lookup.specs.Job.{Job}
 use Rattle.tables.specs.Table.{entry_words, classes_of}
 use Rattle.tables.specs.Inner.{Below}
 
--- Of the first d selectors: amplitudes up to 2^31.
+-- Of the first d selectors: amplitudes up to 2^31. It is a premise and no type: each function asks it of a d of its own, and a type that has
+-- it of all selectors would ask more.
 pub record Selectors (x : Numbers) (d : ℕ) (amplitudes : List ℕ) : Type 0 where
   pub lawful : LawfulNumbers x
   pub depth : d ≤ deepest
@@ -27,18 +29,22 @@ pub record Run (x : Numbers) (d t : ℕ) (sample work blocks : ℕ) (table : Lis
   pub table_length : 4 * (suc t * 2 ^ d * entry_words x.visibility x) ≤ length table
   pub below : Below x table
 
--- Refusal 5 of the slices, or 0.
-abbrev pub lengths : Job → ℕ
+-- Refusal 5 of the slices.
+abbrev pub lengths : Job → Checked
 lengths j =
     let x = j.numbers in
     let p = parameters x.scheme in
-    Check.first (Check.exact (length j.blocks) (x.d * block_size p)) (Check.first (Check.exact (length j.amplitudes) x.d)
-    (Check.first (Check.exact (length j.table) (table_words x.visibility x))
-    (Check.first (Check.exact (length j.entry_amplitudes) (declared_words x.visibility x))
-    (Check.first (Check.exact (length j.sample) (sample_size p)) (Check.exact (length j.work) (sample_size p * (x.d + 1)))))))
+    Check.exact (length j.blocks) (x.d * block_size p) or_else Check.exact (length j.amplitudes) x.d
+    or_else Check.exact (length j.table) (table_words x.visibility x)
+    or_else Check.exact (length j.entry_amplitudes) (declared_words x.visibility x)
+    or_else Check.exact (length j.sample) (sample_size p) or_else Check.exact (length j.work) (sample_size p * (x.d + 1))
 
--- Refusals 6 and 7 of the words in them, or 0.
-abbrev pub contents : Job → ℕ
+-- Refusals 6 and 7 of the words in them.
+abbrev pub contents : Job → Checked
 contents j =
-    Check.first (Check.amplitudes (words j.amplitudes)) (Check.first (Check.amplitudes (words j.entry_amplitudes))
-    (classes_of j.numbers.visibility j.numbers.M (words j.table)))
+    Check.amplitudes (words j.amplitudes) or_else Check.amplitudes (words j.entry_amplitudes)
+    or_else classes_of j.numbers.visibility j.numbers.M (words j.table)
+
+-- Refusals 1 to 7.
+abbrev pub checks : Job → Checked
+checks j = numbers j.numbers or_else lengths j or_else contents j

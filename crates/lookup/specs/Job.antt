@@ -7,6 +7,7 @@ use Rattle.tables.specs.declared.Visibility.TheVariants.{Hidden}
 use Rattle.tables.specs.declared.Numbers.{Numbers}
 use Rattle.tables.specs.Numbers.{table_samples}
 use Rattle.tables.specs.Table.{table_sample}
+use Rattle.lookup.specs.declared.Lent.{Lent}
 
 -- Its numbers, and its slices as lists of bytes, as they are lent. A lookup reads the first four slices, and writes the last two. The table
 -- is classes where it is public, and else samples, each with a declared amplitude; a public table lends no amplitudes.
@@ -18,6 +19,18 @@ pub record Job : Type 0 where
   pub entry_amplitudes : List ℕ
   pub sample : List ℕ
   pub work : List ℕ
+
+-- The job of what is lent to a lookup.
+abbrev pub job_of : (lent : Lent) (sample work : List ℕ) → Job
+job_of lent sample work = record {
+  numbers = lent.numbers;
+  blocks = lent.blocks.now;
+  amplitudes = lent.amplitudes.now;
+  table = lent.table.now;
+  entry_amplitudes = lent.entry_amplitudes.now;
+  sample = sample;
+  work = work;
+}
 
 -- The job of a public table, which is classes.
 abbrev pub public_job : (x : Numbers) (blocks amplitudes classes sample work : List ℕ) → Job

@@ -1,61 +1,50 @@
-// What refuses a lookup beside its numbers, before its noise is judged. Each function gives the number of the first refusal that applies, or 0.
+// What refuses a lookup beside its numbers, before its noise is judged.
 ghost use Rattle.std.specs.Prelude.{◌≡◌};
 ghost use Rattle.torus.specs.Bytes.{words};
+ghost use Rattle.answers.specs.Checks.{◌or_else◌};
 ghost use Rattle.answers.specs.Checks as Check;
 ghost use Rattle.tables.specs.Numbers.{LawfulNumbers};
 ghost use Rattle.tables.specs.Table.{classes_of};
+ghost use Rattle.lookup.specs.Job.{job_of};
 ghost use Rattle.lookup.specs.Inner as Inner;
 
-use tables::Numbers;
+use crate::Lent;
+use answers::Checked;
+use tables::Lawful;
 
 // 5: the lengths of the slices.
-pub fn check_lengths(
-    x: Numbers,
-    blocks: &[u8],
-    amplitudes: &[u8],
-    table: &[u8],
-    declared: &[u8],
-    sample: &[u8],
-    work: &[u8],
-) -> u32
-    requires { LawfulNumbers x }
-    ensures { result ≡ Inner.lengths (record {
-      numbers = x;
-      blocks = blocks.now;
-      amplitudes = amplitudes.now;
-      table = table.now;
-      entry_amplitudes = declared.now;
-      sample = sample.now;
-      work = work.now;
-    }) }
+pub fn check_lengths(lent: &Lent, sample: &[u8], work: &[u8]) -> Checked
+    requires { LawfulNumbers lent.now.numbers }
+    ensures { result ≡ Inner.lengths (job_of lent.now sample.now work.now) }
 {
-    let own = tables::sample_size(x);
-    let written = answers::first(
-        answers::exact(sample.len(), own),
-        answers::exact(work.len(), own * (x.d + 1)),
-    );
-    let entries = answers::first(
-        answers::exact(declared.len(), tables::declared_words(x)),
-        written,
-    );
-    let lent = answers::first(answers::exact(table.len(), tables::table_words(x)), entries);
-    let selectors = answers::first(answers::exact(amplitudes.len(), x.d), lent);
-    answers::first(
-        answers::exact(blocks.len(), x.d * tables::block_size(x)),
-        selectors,
-    )
+    let x = Lawful {
+        numbers: lent.numbers,
+    };
+    let d = lent.numbers.d;
+    answers::exact(lent.blocks.len(), d * x.block_size())?;
+    answers::exact(lent.amplitudes.len(), d)?;
+    answers::exact(lent.table.len(), x.table_words())?;
+    answers::exact(lent.entry_amplitudes.len(), x.declared_words())?;
+    answers::exact(sample.len(), x.sample_size())?;
+    answers::exact(work.len(), x.sample_size() * (d + 1))
 }
 
 // 6 and 7: the amplitudes of selectors and entries, and the classes.
-pub fn check_contents(x: Numbers, amplitudes: &[u8], table: &[u8], declared: &[u8]) -> u32
-    ensures { result ≡ Check.first (Check.amplitudes (words amplitudes.now))
-        (Check.first (Check.amplitudes (words declared.now)) (classes_of x.visibility x.M (words table.now))) }
+pub fn check_contents(lent: &Lent) -> Checked
+    ensures { result ≡ (Check.amplitudes (words lent.now.amplitudes.now)
+        or_else Check.amplitudes (words lent.now.entry_amplitudes.now)
+        or_else classes_of lent.now.numbers.visibility lent.now.numbers.M (words lent.now.table.now)) }
 {
-    let lawful_selectors = answers::amplitudes(amplitudes);
-    let lawful_entries = answers::amplitudes(declared);
-    let lawful_classes = tables::checks::check_classes(x, table);
-    answers::first(
-        lawful_selectors,
-        answers::first(lawful_entries, lawful_classes),
-    )
+    answers::amplitudes(lent.amplitudes)?;
+    answers::amplitudes(lent.entry_amplitudes)?;
+    lent.numbers.check_classes(lent.table)
+}
+
+// 1 to 7.
+pub fn check(lent: &Lent, sample: &[u8], work: &[u8]) -> Checked
+    ensures { result ≡ Inner.checks (job_of lent.now sample.now work.now) }
+{
+    lent.numbers.check()?;
+    check_lengths(lent, sample, work)?;
+    check_contents(lent)
 }

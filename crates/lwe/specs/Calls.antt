@@ -4,8 +4,8 @@
 use Rattle.std.specs.Prelude.{List, [], ◌∷◌, ℕ, ◌+◌, ◌*◌, length}
 use Rattle.torus.specs.Bytes.{words, bytes}
 use Rattle.answers.specs.Checks as Check
-use Rattle.answers.specs.Answers.{◌or_else◌, accepted, after}
-use Rattle.answers.specs.declared.Answer.{Answer}
+use Rattle.answers.specs.Checks.{◌or_else◌}
+use Rattle.answers.specs.Answers.{Answer, accepted, after}
 use Rattle.trlwe.specs.Classes.{decode}
 use Rattle.lwe.specs.Scalar.{scalar_phase, extracted}
 

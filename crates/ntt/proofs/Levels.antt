@@ -1,16 +1,16 @@
 -- The levels, one after the other, down and up.
 -- Assumes nothing.
-use mathlib.Core.Path.{◌≡◌, refl, ap, sym, ◌∙◌, subst}
+use mathlib.Core.Path.{◌≡◌, ap, sym, ◌∙◌, subst}
 use mathlib.Core.List.{List}
-use Prim.Native.Nat.{ℕ, suc, ◌+◌, ◌*◌, ◌-◌, ◌/◌, ◌^◌, ◌≤◌, ◌<◌}
-use native.Mathlib.Nat.{two-pow-succ, le_trans, le_of_eq, mul_assoc}
-use native.Mathlib.Numerals.{add-one}
+use Prim.Native.Nat.{ℕ, suc, ◌+◌, ◌*◌, ◌-◌, ◌%◌, ◌^◌, ◌≤◌, ◌<◌}
+use native.Mathlib.Nat.{two-pow-succ, le_trans, le_of_eq, mul_assoc, lt_of_not-le}
+use Rattle.std.proofs.lemmas.Nat.{one_shl}
 use native.Mathlib.Omega.{arith}
 use lib.ListN.{get_or, length}
 use lib.Pow.{pow_pos, pow_mono, pow-add}
 use Rattle.ring.specs.Polynomial.{coefficients}
 use Rattle.ntt.specs.Nodes.{At}
-use Rattle.butterflies.specs.Butterflies.{Below, Stored, Reduced, Prepared, DownLevel, UpLevel, down_low, down_high, up_low, up_high}
+use Rattle.butterflies.specs.Butterflies.{Stored, Reduced, Prepared, DownLevel, UpLevel, down_low, down_high, up_low, up_high}
 use Rattle.ntt.specs.Transforms.{Table, Twiddles, Down, Up}
 use Rattle.butterflies.specs.Same.{Same}
 use Rattle.butterflies.proofs.SameLaws.{same_trans, same_path, same_scale}
@@ -81,99 +81,12 @@ module _ (p n : ℕ) (t q : List ℕ) (T : Twiddles p n t q) (d : ℕ) (l : d < 
       (λ j m lj lm. let i : 2 ^ d + j - 2 ^ d ≡ j = omega arith in
       rw i (same_trans (rw f at L.high j m lj lm) (turned p (p - 1) o _ _ _))))
 
--- The loop down, after d levels.
-pub record Going (p n : ℕ) (t : List ℕ) (d m h : ℕ) (a b : List ℕ) : Type 0 where
-  pub le : d ≤ n
-  pub nodes : m ≡ 2 ^ d
-  pub half : h ≡ 2 ^ (n - d) / 2
-  pub len : length b ≡ 2 ^ n
-  pub down : Down p n t d a b
-  pub below : Below (4 * p) b
+-- A shift by the level's number fits.
+pub few : (n L : ℕ) → 2 ^ n ≤ L → L < 18446744073709551616 → n < 64
+few n L h l = lt_of_not-le (λ g. let f : ⊥ = omega (arith, pow_mono {i = 64} {j = n} g, h, l) in f)
 
-pub going_start : (p n : ℕ) (t a : List ℕ) → length a ≡ 2 ^ n → Below (4 * p) a → Going p n t 0 1 (length a / 2) a a
-going_start p n t a e B = record {
-  le = omega arith;
-  nodes = refl;
-  half = let f : n - 0 ≡ n = omega arith in rw (e, f) refl;
-  len = e;
-  down = down_start p n t a;
-  below = B;
-}
+pub half_is : (n d : ℕ) → n < 64 → 1 * 2 ^ (n - 1 - d) % 18446744073709551616 ≡ 2 ^ (n - suc d)
+half_is n d l = let e : n - 1 - d ≡ n - suc d = omega arith in one_shl (n - 1 - d) 64 (omega arith) ∙ ap (λ x. 2 ^ x) e
 
-half_is : (n d h : ℕ) → d < n → h ≡ 2 ^ (n - d) / 2 → h ≡ 2 ^ (n - suc d)
-half_is n d h l e = omega (arith, halves n d l)
-
-level_room : (n d m h L : ℕ) → d < n → m ≡ 2 ^ d → h ≡ 2 ^ (n - suc d) → L ≡ 2 ^ n → m * (h + h) ≤ L
-level_room n d m h L l e f g = rw (e, f, g) (le_of_eq (ap (λ x. 2 ^ d * x) (sym (halves n d l)) ∙ whole n d (omega arith)))
-
-module _ {p n : ℕ} {t : List ℕ} {d m h : ℕ} {a b : List ℕ} (G : Going p n t d m h a b) where
-  module _ (l : d < n) where
-    pub going_requires : (q : List ℕ) → Table p n t q → (0 < m) × (m * (h + h) ≤ length b) × Prepared p m t q × Below (4 * p) b
-    going_requires q T =
-        (rw G.nodes (pow_pos d), level_room n d m h (length b) l G.nodes (half_is n d h l G.half) G.len, rw G.nodes (table_prepared p n d t q T l), G.below)
-
-    pub going_step : (e : List ℕ) → DownLevel p m h t b e → Below (4 * p) e
-        → Going p n t (d + 1) (m + m) (h / 2) a e
-    going_step e L B = record {
-      le = omega arith;
-      nodes = rw (G.nodes, add-one d) (sym (two-pow-succ d));
-      half = rw (add-one d) (ap (λ x. x / 2) (half_is n d h l G.half));
-      len = L.len ∙ G.len;
-      down = rw (add-one d) (down_step p n t d h a b e l (half_is n d h l G.half) G.down (rw G.nodes at L));
-      below = B;
-    }
-
-  pub going_end : n ≤ d → Down p n t n a b
-  going_end l = let e : d ≡ n = omega (arith, G.le) in rw e at G.down
-
--- The loop up, with d levels left.
-pub record Rising (p n : ℕ) (t : List ℕ) (d m h : ℕ) (a b : List ℕ) : Type 0 where
-  pub le : d ≤ n
-  pub nodes : m ≡ 2 ^ d / 2
-  pub half : h ≡ 2 ^ (n - d)
-  pub len : length b ≡ 2 ^ n
-  pub up : Up p n t d a b
-  pub below : Below (p + p) b
-
-pub rising_start : (p n : ℕ) (t a : List ℕ) → length a ≡ 2 ^ n → Below (p + p) a → Rising p n t n (length a / 2) 1 a a
-rising_start p n t a e B = record {
-  le = omega arith;
-  nodes = rw e refl;
-  half = let f : n - n ≡ 0 = omega arith in rw f refl;
-  len = e;
-  up = up_start p n t a;
-  below = B;
-}
-
-module _ {p n : ℕ} {t q : List ℕ} (T : Twiddles p n t q) where
-  module _ {d m h : ℕ} {a b : List ℕ} (G : Rising p n t (suc d) m h a b) where
-    nodes_is : m ≡ 2 ^ d
-    nodes_is = omega (arith, G.nodes, two-pow-succ d)
-
-    rising_requires : (0 < m) × (m * (h + h) ≤ length b) × Prepared p m t q × Below (p + p) b
-    rising_requires =
-        (rw nodes_is (pow_pos d), level_room n d m h (length b) G.le nodes_is G.half G.len, rw nodes_is (table_prepared p n d t q T.table G.le), G.below)
-
-    rising_step : (e : List ℕ) → UpLevel p m h t b e → Below (p + p) e → Rising p n t d (m / 2) (h + h) a e
-    rising_step e L B = record {
-      le = omega (arith, G.le);
-      nodes = ap (λ x. x / 2) nodes_is;
-      half = omega (arith, G.half, halves n d G.le);
-      len = L.len ∙ G.len;
-      up = up_step p n t q T d G.le h a b e G.half G.up (rw nodes_is at L);
-      below = B;
-    }
-
-  -- The same, for d above 0 as the loop has it.
-  module _ {d m h : ℕ} {a b : List ℕ} (G : Rising p n t d m h a b) (l : 0 < d) where
-    one_less : Rising p n t (suc (d - 1)) m h a b
-    one_less = let e : d ≡ suc (d - 1) = omega arith in rw e at G
-
-    pub rise_requires : (0 < m) × (m * (h + h) ≤ length b) × Prepared p m t q × Below (p + p) b
-    rise_requires = rising_requires one_less
-
-    pub rise_step : (e : List ℕ) → UpLevel p m h t b e → Below (p + p) e → Rising p n t (d - 1) (m / 2) (h + h) a e
-    rise_step = rising_step one_less
-
-pub rise_end : {p n : ℕ} {t : List ℕ} {d m h : ℕ} {a b : List ℕ} → Rising p n t d m h a b → d ≤ 0 → Up p n t 0 a b
-rise_end {d = d} G l = let e : d ≡ 0 = omega arith in rw e at G.up
+pub level_room : (n d L : ℕ) → d < n → L ≡ 2 ^ n → 2 ^ d * (2 ^ (n - suc d) + 2 ^ (n - suc d)) ≤ L
+level_room n d L l e = rw e (le_of_eq (ap (λ x. 2 ^ d * x) (sym (halves n d l)) ∙ whole n d (omega arith)))

@@ -1,3 +1,4 @@
 pub mod Split
 pub mod NodeLaws
 pub mod Levels
+pub mod Plans

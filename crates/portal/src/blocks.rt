@@ -5,10 +5,8 @@ ghost use Rattle.trgsw.specs.Parameters.{scheme_of};
 ghost use Rattle.selectors.specs.Calls as Selectors;
 ghost use Rattle.gates.specs.Calls as Gates;
 
-use gates::cmux::{cmux, cmux_answer};
-use gates::external::{external_product, external_product_answer};
-use selectors::{encrypt_selector, encrypt_selector_answer};
-use trgsw::scheme_of;
+use gates::{cmux, external};
+use trgsw::Scheme;
 
 #[unsafe(no_mangle)]
 pub extern "C" fn cikenuma_encrypt_selector(
@@ -31,7 +29,14 @@ pub extern "C" fn cikenuma_encrypt_selector(
     } in
         (result ≡ number (Selectors.encrypt_selector c)) × (block.new ≡ Selectors.encrypt_selector_block c)) }
 {
-    encrypt_selector(trgsw::scheme_of(n, g, l), bit, key, masks, errors, block)
+    let lent = selectors::Lent {
+        scheme: Scheme::new(n, g, l),
+        bit,
+        key,
+        masks,
+        errors,
+    };
+    answers::number(selectors::encrypt_selector(&lent, block))
 }
 
 #[unsafe(no_mangle)]
@@ -54,7 +59,14 @@ pub extern "C" fn cikenuma_encrypt_selector_bound(
       block = block.now;
     })) }
 {
-    encrypt_selector_answer(trgsw::scheme_of(n, g, l), bit, key, masks, errors, block).bound()
+    let lent = selectors::Lent {
+        scheme: Scheme::new(n, g, l),
+        bit,
+        key,
+        masks,
+        errors,
+    };
+    answers::bound(selectors::encrypt_selector_answer(&lent, block))
 }
 
 #[unsafe(no_mangle)]
@@ -77,7 +89,14 @@ pub extern "C" fn cikenuma_encrypt_selector_gates(
       block = block.now;
     })) }
 {
-    encrypt_selector_answer(trgsw::scheme_of(n, g, l), bit, key, masks, errors, block).gates()
+    let lent = selectors::Lent {
+        scheme: Scheme::new(n, g, l),
+        bit,
+        key,
+        masks,
+        errors,
+    };
+    answers::gates(selectors::encrypt_selector_answer(&lent, block))
 }
 
 #[unsafe(no_mangle)]
@@ -101,14 +120,14 @@ pub extern "C" fn cikenuma_external_product(
     } in
         (result ≡ number (Gates.external_product c)) × (out.new ≡ Gates.external_product_out c)) }
 {
-    external_product(
-        scheme_of(n, g, l),
+    let lent = external::Lent {
+        scheme: Scheme::new(n, g, l),
         amplitude,
         sample_amplitude,
         block,
         sample,
-        out,
-    )
+    };
+    answers::number(external::external_product(&lent, out))
 }
 
 #[unsafe(no_mangle)]
@@ -131,15 +150,14 @@ pub extern "C" fn cikenuma_external_product_bound(
       out = out.now;
     })) }
 {
-    external_product_answer(
-        scheme_of(n, g, l),
+    let lent = external::Lent {
+        scheme: Scheme::new(n, g, l),
         amplitude,
         sample_amplitude,
         block,
         sample,
-        out,
-    )
-    .bound()
+    };
+    answers::bound(external::external_product_answer(&lent, out))
 }
 
 #[unsafe(no_mangle)]
@@ -162,15 +180,14 @@ pub extern "C" fn cikenuma_external_product_gates(
       out = out.now;
     })) }
 {
-    external_product_answer(
-        scheme_of(n, g, l),
+    let lent = external::Lent {
+        scheme: Scheme::new(n, g, l),
         amplitude,
         sample_amplitude,
         block,
         sample,
-        out,
-    )
-    .gates()
+    };
+    answers::gates(external::external_product_answer(&lent, out))
 }
 
 #[unsafe(no_mangle)]
@@ -198,16 +215,16 @@ pub extern "C" fn cikenuma_cmux(
     } in
         (result ≡ number (Gates.cmux c)) × (out.new ≡ Gates.cmux_out c)) }
 {
-    cmux(
-        scheme_of(n, g, l),
+    let lent = cmux::Lent {
+        scheme: Scheme::new(n, g, l),
         amplitude,
         amplitude0,
         amplitude1,
         block,
         sample0,
         sample1,
-        out,
-    )
+    };
+    answers::number(cmux::cmux(&lent, out))
 }
 
 #[unsafe(no_mangle)]
@@ -234,17 +251,16 @@ pub extern "C" fn cikenuma_cmux_bound(
       out = out.now;
     })) }
 {
-    cmux_answer(
-        scheme_of(n, g, l),
+    let lent = cmux::Lent {
+        scheme: Scheme::new(n, g, l),
         amplitude,
         amplitude0,
         amplitude1,
         block,
         sample0,
         sample1,
-        out,
-    )
-    .bound()
+    };
+    answers::bound(cmux::cmux_answer(&lent, out))
 }
 
 #[unsafe(no_mangle)]
@@ -271,15 +287,14 @@ pub extern "C" fn cikenuma_cmux_gates(
       out = out.now;
     })) }
 {
-    cmux_answer(
-        scheme_of(n, g, l),
+    let lent = cmux::Lent {
+        scheme: Scheme::new(n, g, l),
         amplitude,
         amplitude0,
         amplitude1,
         block,
         sample0,
         sample1,
-        out,
-    )
-    .gates()
+    };
+    answers::gates(cmux::cmux_answer(&lent, out))
 }

@@ -8,8 +8,9 @@ ghost use Rattle.lookup.specs.Job.{Job};
 ghost use Rattle.lookup.specs.Calls as Lookups;
 
 use crate::numbers;
-use tables::{Packing, Visibility};
-use trgsw::scheme_of;
+use lookup::Lent;
+use tables::Packing::{Horizontal, Vertical};
+use tables::Visibility::Hidden;
 
 #[unsafe(no_mangle)]
 pub extern "C" fn cikenuma_lookup_hidden(
@@ -37,23 +38,14 @@ pub extern "C" fn cikenuma_lookup_hidden(
     } in
         (result ≡ number (Lookups.lookup j)) × (sample.new ≡ Lookups.lookup_sample j) × (work.new ≡ Lookups.lookup_work j)) }
 {
-    lookup::lookup(
-        numbers(
-            Packing::Horizontal,
-            Visibility::Hidden,
-            scheme_of(n, g, l),
-            m,
-            s,
-            d,
-        ),
+    let lent = Lent {
+        numbers: numbers(Horizontal, Hidden, n, g, l, m, s, d),
         blocks,
         amplitudes,
-        samples,
-        sample_amplitudes,
-        sample,
-        work,
-    )
-    .number()
+        table: samples,
+        entry_amplitudes: sample_amplitudes,
+    };
+    answers::number(lookup::lookup(&lent, sample, work))
 }
 
 #[unsafe(no_mangle)]
@@ -81,23 +73,14 @@ pub extern "C" fn cikenuma_lookup_hidden_bound(
       work = work.now;
     })) }
 {
-    lookup::lookup_answer(
-        numbers(
-            Packing::Horizontal,
-            Visibility::Hidden,
-            scheme_of(n, g, l),
-            m,
-            s,
-            d,
-        ),
+    let lent = Lent {
+        numbers: numbers(Horizontal, Hidden, n, g, l, m, s, d),
         blocks,
         amplitudes,
-        samples,
-        sample_amplitudes,
-        sample,
-        work,
-    )
-    .bound()
+        table: samples,
+        entry_amplitudes: sample_amplitudes,
+    };
+    answers::bound(lookup::lookup_answer(&lent, sample, work))
 }
 
 #[unsafe(no_mangle)]
@@ -125,23 +108,14 @@ pub extern "C" fn cikenuma_lookup_hidden_gates(
       work = work.now;
     })) }
 {
-    lookup::lookup_answer(
-        numbers(
-            Packing::Horizontal,
-            Visibility::Hidden,
-            scheme_of(n, g, l),
-            m,
-            s,
-            d,
-        ),
+    let lent = Lent {
+        numbers: numbers(Horizontal, Hidden, n, g, l, m, s, d),
         blocks,
         amplitudes,
-        samples,
-        sample_amplitudes,
-        sample,
-        work,
-    )
-    .gates()
+        table: samples,
+        entry_amplitudes: sample_amplitudes,
+    };
+    answers::gates(lookup::lookup_answer(&lent, sample, work))
 }
 
 #[unsafe(no_mangle)]
@@ -170,23 +144,14 @@ pub extern "C" fn cikenuma_lookup_hidden_vertical(
     } in
         (result ≡ number (Lookups.lookup j)) × (sample.new ≡ Lookups.lookup_sample j) × (work.new ≡ Lookups.lookup_work j)) }
 {
-    lookup::lookup(
-        numbers(
-            Packing::Vertical,
-            Visibility::Hidden,
-            scheme_of(n, g, l),
-            m,
-            s,
-            d,
-        ),
+    let lent = Lent {
+        numbers: numbers(Vertical, Hidden, n, g, l, m, s, d),
         blocks,
         amplitudes,
-        samples,
-        sample_amplitudes,
-        sample,
-        work,
-    )
-    .number()
+        table: samples,
+        entry_amplitudes: sample_amplitudes,
+    };
+    answers::number(lookup::lookup(&lent, sample, work))
 }
 
 #[unsafe(no_mangle)]
@@ -214,23 +179,14 @@ pub extern "C" fn cikenuma_lookup_hidden_vertical_bound(
       work = work.now;
     })) }
 {
-    lookup::lookup_answer(
-        numbers(
-            Packing::Vertical,
-            Visibility::Hidden,
-            scheme_of(n, g, l),
-            m,
-            s,
-            d,
-        ),
+    let lent = Lent {
+        numbers: numbers(Vertical, Hidden, n, g, l, m, s, d),
         blocks,
         amplitudes,
-        samples,
-        sample_amplitudes,
-        sample,
-        work,
-    )
-    .bound()
+        table: samples,
+        entry_amplitudes: sample_amplitudes,
+    };
+    answers::bound(lookup::lookup_answer(&lent, sample, work))
 }
 
 #[unsafe(no_mangle)]
@@ -258,21 +214,12 @@ pub extern "C" fn cikenuma_lookup_hidden_vertical_gates(
       work = work.now;
     })) }
 {
-    lookup::lookup_answer(
-        numbers(
-            Packing::Vertical,
-            Visibility::Hidden,
-            scheme_of(n, g, l),
-            m,
-            s,
-            d,
-        ),
+    let lent = Lent {
+        numbers: numbers(Vertical, Hidden, n, g, l, m, s, d),
         blocks,
         amplitudes,
-        samples,
-        sample_amplitudes,
-        sample,
-        work,
-    )
-    .gates()
+        table: samples,
+        entry_amplitudes: sample_amplitudes,
+    };
+    answers::gates(lookup::lookup_answer(&lent, sample, work))
 }

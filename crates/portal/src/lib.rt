@@ -1,5 +1,6 @@
 // The calls that C programs make. Each returns its number; its two sisters take the same arguments, write nothing, and return the
-// bound and the gates. include/cikenuma.h documents them.
+// bound and the gates. include/cikenuma.h documents them. The C interface is why there are three functions for one answer, why their
+// arguments stand one by one, and why each packing and each kind of table has functions of its own.
 #![tactic(auto)]
 
 pub mod blocks;
@@ -9,6 +10,7 @@ pub mod packed;
 pub mod scalar;
 
 ghost use Rattle.std.specs.Prelude.{◌≡◌};
+ghost use Rattle.trgsw.specs.Parameters as Parameters;
 
 use tables::{Numbers, Packing, Visibility};
 use trgsw::Scheme;
@@ -17,17 +19,19 @@ use trgsw::Scheme;
 fn numbers(
     packing: Packing,
     visibility: Visibility,
-    scheme: Scheme,
+    n: u64,
+    g: u64,
+    l: u64,
     m: u64,
     s: u64,
     d: u64,
 ) -> Numbers
-    ensures { result ≡ record { packing = packing; visibility = visibility; scheme = scheme; M = m; s = s; d = d } }
+    ensures { result ≡ record { packing = packing; visibility = visibility; scheme = Parameters.scheme_of n g l; M = m; s = s; d = d } }
 {
     Numbers {
         packing,
         visibility,
-        scheme,
+        scheme: Scheme::new(n, g, l),
         M: m,
         s,
         d,

@@ -8,8 +8,9 @@ ghost use Rattle.lookup.specs.Job.{Job, public_job};
 ghost use Rattle.lookup.specs.Calls as Lookups;
 
 use crate::numbers;
-use tables::{Packing, Visibility};
-use trgsw::scheme_of;
+use lookup::Lent;
+use tables::Packing::{Horizontal, Vertical};
+use tables::Visibility::Public;
 
 #[unsafe(no_mangle)]
 pub extern "C" fn cikenuma_lookup(
@@ -29,23 +30,14 @@ pub extern "C" fn cikenuma_lookup(
         blocks.now amplitudes.now classes.now sample.old work.old in
         (result ≡ number (Lookups.lookup j)) × (sample.new ≡ Lookups.lookup_sample j) × (work.new ≡ Lookups.lookup_work j)) }
 {
-    lookup::lookup(
-        numbers(
-            Packing::Horizontal,
-            Visibility::Public,
-            scheme_of(n, g, l),
-            m,
-            s,
-            d,
-        ),
+    let lent = Lent {
+        numbers: numbers(Horizontal, Public, n, g, l, m, s, d),
         blocks,
         amplitudes,
-        classes,
-        &[],
-        sample,
-        work,
-    )
-    .number()
+        table: classes,
+        entry_amplitudes: &[],
+    };
+    answers::number(lookup::lookup(&lent, sample, work))
 }
 
 #[unsafe(no_mangle)]
@@ -65,23 +57,14 @@ pub extern "C" fn cikenuma_lookup_bound(
     ensures { result ≡ bound (Lookups.lookup (public_job (record { packing = Horizontal; visibility = Public; scheme = scheme_of n g l; M = m; s = s; d = d })
         blocks.now amplitudes.now classes.now sample.now work.now)) }
 {
-    lookup::lookup_answer(
-        numbers(
-            Packing::Horizontal,
-            Visibility::Public,
-            scheme_of(n, g, l),
-            m,
-            s,
-            d,
-        ),
+    let lent = Lent {
+        numbers: numbers(Horizontal, Public, n, g, l, m, s, d),
         blocks,
         amplitudes,
-        classes,
-        &[],
-        sample,
-        work,
-    )
-    .bound()
+        table: classes,
+        entry_amplitudes: &[],
+    };
+    answers::bound(lookup::lookup_answer(&lent, sample, work))
 }
 
 #[unsafe(no_mangle)]
@@ -101,23 +84,14 @@ pub extern "C" fn cikenuma_lookup_gates(
     ensures { result ≡ gates (Lookups.lookup (public_job (record { packing = Horizontal; visibility = Public; scheme = scheme_of n g l; M = m; s = s; d = d })
         blocks.now amplitudes.now classes.now sample.now work.now)) }
 {
-    lookup::lookup_answer(
-        numbers(
-            Packing::Horizontal,
-            Visibility::Public,
-            scheme_of(n, g, l),
-            m,
-            s,
-            d,
-        ),
+    let lent = Lent {
+        numbers: numbers(Horizontal, Public, n, g, l, m, s, d),
         blocks,
         amplitudes,
-        classes,
-        &[],
-        sample,
-        work,
-    )
-    .gates()
+        table: classes,
+        entry_amplitudes: &[],
+    };
+    answers::gates(lookup::lookup_answer(&lent, sample, work))
 }
 
 #[unsafe(no_mangle)]
@@ -138,23 +112,14 @@ pub extern "C" fn cikenuma_lookup_vertical(
         blocks.now amplitudes.now classes.now sample.old work.old in
         (result ≡ number (Lookups.lookup j)) × (sample.new ≡ Lookups.lookup_sample j) × (work.new ≡ Lookups.lookup_work j)) }
 {
-    lookup::lookup(
-        numbers(
-            Packing::Vertical,
-            Visibility::Public,
-            scheme_of(n, g, l),
-            m,
-            s,
-            d,
-        ),
+    let lent = Lent {
+        numbers: numbers(Vertical, Public, n, g, l, m, s, d),
         blocks,
         amplitudes,
-        classes,
-        &[],
-        sample,
-        work,
-    )
-    .number()
+        table: classes,
+        entry_amplitudes: &[],
+    };
+    answers::number(lookup::lookup(&lent, sample, work))
 }
 
 #[unsafe(no_mangle)]
@@ -174,23 +139,14 @@ pub extern "C" fn cikenuma_lookup_vertical_bound(
     ensures { result ≡ bound (Lookups.lookup (public_job (record { packing = Vertical; visibility = Public; scheme = scheme_of n g l; M = m; s = s; d = d })
         blocks.now amplitudes.now classes.now sample.now work.now)) }
 {
-    lookup::lookup_answer(
-        numbers(
-            Packing::Vertical,
-            Visibility::Public,
-            scheme_of(n, g, l),
-            m,
-            s,
-            d,
-        ),
+    let lent = Lent {
+        numbers: numbers(Vertical, Public, n, g, l, m, s, d),
         blocks,
         amplitudes,
-        classes,
-        &[],
-        sample,
-        work,
-    )
-    .bound()
+        table: classes,
+        entry_amplitudes: &[],
+    };
+    answers::bound(lookup::lookup_answer(&lent, sample, work))
 }
 
 #[unsafe(no_mangle)]
@@ -210,21 +166,12 @@ pub extern "C" fn cikenuma_lookup_vertical_gates(
     ensures { result ≡ gates (Lookups.lookup (public_job (record { packing = Vertical; visibility = Public; scheme = scheme_of n g l; M = m; s = s; d = d })
         blocks.now amplitudes.now classes.now sample.now work.now)) }
 {
-    lookup::lookup_answer(
-        numbers(
-            Packing::Vertical,
-            Visibility::Public,
-            scheme_of(n, g, l),
-            m,
-            s,
-            d,
-        ),
+    let lent = Lent {
+        numbers: numbers(Vertical, Public, n, g, l, m, s, d),
         blocks,
         amplitudes,
-        classes,
-        &[],
-        sample,
-        work,
-    )
-    .gates()
+        table: classes,
+        entry_amplitudes: &[],
+    };
+    answers::gates(lookup::lookup_answer(&lent, sample, work))
 }

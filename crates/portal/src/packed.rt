@@ -19,7 +19,7 @@ pub extern "C" fn cikenuma_encrypt_classes(
         × (sample.new ≡ Packed.encrypt_classes_sample n m s
         key.now mask.now errors.now classes.now sample.old) }
 {
-    trlwe::encrypt_classes(n, m, s, key, mask, errors, classes, sample)
+    answers::number(trlwe::encrypt_classes(n, m, s, key, mask, errors, classes, sample))
 }
 
 #[unsafe(no_mangle)]
@@ -36,7 +36,7 @@ pub extern "C" fn cikenuma_encrypt_classes_bound(
     ensures { result ≡ bound (Packed.encrypt_classes n m s
         key.now mask.now errors.now classes.now sample.now) }
 {
-    trlwe::encrypt_classes_answer(n, m, s, key, mask, errors, classes, sample).bound()
+    answers::bound(trlwe::encrypt_classes_answer(n, m, s, key, mask, errors, classes, sample))
 }
 
 #[unsafe(no_mangle)]
@@ -53,7 +53,7 @@ pub extern "C" fn cikenuma_encrypt_classes_gates(
     ensures { result ≡ gates (Packed.encrypt_classes n m s
         key.now mask.now errors.now classes.now sample.now) }
 {
-    trlwe::encrypt_classes_answer(n, m, s, key, mask, errors, classes, sample).gates()
+    answers::gates(trlwe::encrypt_classes_answer(n, m, s, key, mask, errors, classes, sample))
 }
 
 #[unsafe(no_mangle)]
@@ -70,7 +70,7 @@ pub extern "C" fn cikenuma_decrypt_classes(
         × (classes.new ≡ Packed.decrypt_classes_classes n m s
         key.now sample.now classes.old) }
 {
-    trlwe::decrypt_classes(n, m, s, key, sample, classes)
+    answers::number(trlwe::decrypt_classes(n, m, s, key, sample, classes))
 }
 
 #[unsafe(no_mangle)]
@@ -85,7 +85,7 @@ pub extern "C" fn cikenuma_decrypt_classes_bound(
     ensures { result ≡ bound (Packed.decrypt_classes n m s
         key.now sample.now classes.now) }
 {
-    trlwe::decrypt_classes_answer(n, m, s, key, sample, classes).bound()
+    answers::bound(trlwe::decrypt_classes_answer(n, m, s, key, sample, classes))
 }
 
 #[unsafe(no_mangle)]
@@ -100,5 +100,5 @@ pub extern "C" fn cikenuma_decrypt_classes_gates(
     ensures { result ≡ gates (Packed.decrypt_classes n m s
         key.now sample.now classes.now) }
 {
-    trlwe::decrypt_classes_answer(n, m, s, key, sample, classes).gates()
+    answers::gates(trlwe::decrypt_classes_answer(n, m, s, key, sample, classes))
 }

@@ -16,7 +16,7 @@ pub extern "C" fn cikenuma_decrypt_scalar(
         × (class.new ≡ Scalars.decrypt_scalar_class n m
         key.now scalar.now class.old) }
 {
-    lwe::decrypt_scalar(n, m, key, scalar, class)
+    answers::number(lwe::decrypt_scalar(n, m, key, scalar, class))
 }
 
 #[unsafe(no_mangle)]
@@ -30,7 +30,7 @@ pub extern "C" fn cikenuma_decrypt_scalar_bound(
     ensures { result ≡ bound (Scalars.decrypt_scalar n m
         key.now scalar.now class.now) }
 {
-    lwe::decrypt_scalar_answer(n, m, key, scalar, class).bound()
+    answers::bound(lwe::decrypt_scalar_answer(n, m, key, scalar, class))
 }
 
 #[unsafe(no_mangle)]
@@ -44,7 +44,7 @@ pub extern "C" fn cikenuma_decrypt_scalar_gates(
     ensures { result ≡ gates (Scalars.decrypt_scalar n m
         key.now scalar.now class.now) }
 {
-    lwe::decrypt_scalar_answer(n, m, key, scalar, class).gates()
+    answers::gates(lwe::decrypt_scalar_answer(n, m, key, scalar, class))
 }
 
 #[unsafe(no_mangle)]
@@ -54,7 +54,7 @@ pub extern "C" fn cikenuma_extract(n: u64, p: u64, sample: &[u8], scalar: &mut [
         × (scalar.new ≡ Scalars.extract_scalar n p
         sample.now scalar.old) }
 {
-    lwe::extract(n, p, sample, scalar)
+    answers::number(lwe::extract(n, p, sample, scalar))
 }
 
 #[unsafe(no_mangle)]
@@ -62,7 +62,7 @@ pub extern "C" fn cikenuma_extract_bound(n: u64, p: u64, sample: &[u8], scalar: 
     ensures { result ≡ bound (Scalars.extract n p
         sample.now scalar.now) }
 {
-    lwe::extract_answer(n, p, sample, scalar).bound()
+    answers::bound(lwe::extract_answer(n, p, sample, scalar))
 }
 
 #[unsafe(no_mangle)]
@@ -70,5 +70,5 @@ pub extern "C" fn cikenuma_extract_gates(n: u64, p: u64, sample: &[u8], scalar: 
     ensures { result ≡ gates (Scalars.extract n p
         sample.now scalar.now) }
 {
-    lwe::extract_answer(n, p, sample, scalar).gates()
+    answers::gates(lwe::extract_answer(n, p, sample, scalar))
 }

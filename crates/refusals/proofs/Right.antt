@@ -10,7 +10,7 @@ use Rattle.torus.specs.Sum.{sum, tabulate, joined}
 use Rattle.torus.specs.Word.{magnitude}
 use Rattle.torus.specs.Bytes.{words, bytes}
 use Rattle.gadget.specs.Digits.{precision}
-use Rattle.answers.specs.Answers.{◌or_else◌, greatest_magnitude}
+use Rattle.answers.specs.Answers.{greatest_magnitude}
 use Rattle.answers.specs.Checks.{all_below}
 use Rattle.trlwe.specs.Calls as Trlwe
 use Rattle.lwe.specs.Calls as Lwe
@@ -40,7 +40,7 @@ LimitTest ls = map (λ (l : Limit). eqb l.got l.unwanted) ls ≡ map (λ (l : Li
 Tested : List Call → Type 0
 unfolding group_rows group_limits refusal_rows Trlwe.encrypt_classes Trlwe.decrypt_classes Lwe.decrypt_scalar Lwe.extract
     Selectors.encrypt_selector Gates.external_product Gates.cmux Lookup.lookup job_answer file_refusal read_job file_packing masks weight rotations
-    ◌or_else◌ greatest_magnitude largest charges charge sum precision magnitude words bytes tabulate joined ones count_trailing_zeros all_below
+    greatest_magnitude largest charges charge sum precision magnitude words bytes tabulate joined ones count_trailing_zeros all_below
 Tested calls = RowTest (group_rows calls) × LimitTest (group_limits calls)
 
 samples_tested : Tested samples

@@ -2,7 +2,7 @@
 -- Assumes nothing.
 use Rattle.std.specs.Prelude.{List, ◌∷◌, ◌++◌, ℕ}
 use Rattle.torus.specs.Bytes.{words, bytes}
-use Rattle.answers.specs.declared.Answer.{Answer}
+use Rattle.answers.specs.Answers.{Answer}
 use Rattle.trlwe.specs.Calls as Trlwe
 use Rattle.lwe.specs.Calls as Lwe
 use Rattle.trgsw.specs.declared.Scheme.{Scheme}

@@ -4,7 +4,7 @@
 -- Assumes nothing.
 use Rattle.std.specs.Prelude.{List, [], ◌∷◌, ◌++◌, ℕ, map, flat_map}
 use Rattle.answers.specs.Answers as Answers
-use Rattle.answers.specs.declared.Answer.{Answer}
+use Rattle.answers.specs.Answers.{Answer}
 use Rattle.refusals.specs.Arguments.{Arguments}
 use Rattle.refusals.specs.Faults.{Change, Refusal}
 

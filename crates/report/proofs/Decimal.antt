@@ -1,14 +1,14 @@
--- Numbers in decimal: how long the text of a number is, what a loop makes that writes it from its last digit on, and that the text
--- says the number.
+-- Numbers in decimal: how long the text of a number is, that it says the number, and that it is the text which the library writes.
 -- Assumes nothing.
-use mathlib.Core.Path.{◌≡◌, refl, ap, ap₂, sym, ◌∙◌}
-use mathlib.Core.List.{List, [], ◌∷◌, ◌++◌, append_assoc, append-nil}
+use mathlib.Core.Path.{◌≡◌, refl, ap, ◌∙◌}
+use mathlib.Core.List.{List, [], ◌∷◌, ◌++◌}
 use Prim.Native.Nat.{ℕ, zero, suc, ◌+◌, ◌-◌, ◌*◌, ◌/◌, ◌%◌, ◌^◌, ◌≤◌, ◌<◌}
 use native.Mathlib.Decide.{dec_lt}
 use native.Mathlib.Omega.{arith}
 use borrow.Author.Tests.{lt-ltb, le-ltb}
-use lib.ListN.{length, get_or, take, drop, set, replicate, length-append, length-drop, length-set}
-use lib.Seq.{take_all, drop-cons, drop-set-lt, get_or-set_same}
+use lib.ListN.{length, get_or, length-append}
+use Rattle.std.specs.Fmt as Fmt
+use Rattle.std.proofs.lemmas.Fmt.{decimal_digit, decimal_step}
 use Rattle.report.specs.Text.{decimal_up_to, decimal}
 
 -- A number of one digit.
@@ -44,43 +44,6 @@ length_digits (suc k) n =
 pub length_decimal : (n : ℕ) → length (decimal n) ≤ 20
 unfolding decimal
 length_decimal n = length_digits 19 n
-
--- ---- the loop
-
--- The text of n is that of the rest, which has at most first + 1 digits, and behind it what stands in the room behind `first`.
-abbrev pub Spelt : (n first rest : ℕ) (room : List ℕ) → Type 0
-Spelt n first rest room = (rest < 10 ^ suc first) × (decimal n ≡ decimal_up_to first rest ++ drop (suc first) room)
-
--- No digit is stored.
-pub spelt_none : (n : ℕ) → n < 10 ^ 20 → Spelt n 19 n (replicate 20 0)
-unfolding decimal
-spelt_none n h = (h, sym (append-nil (decimal_up_to 19 n)))
-
--- From the place where a character is stored the room holds it, and then what stood behind.
-from_stored : (room : List ℕ) (i v : ℕ) → i < length room → drop i (set room i v) ≡ v ∷ drop (suc i) room
-from_stored room i v h =
-    drop-cons (set room i v) i 0 (omega (arith, length-set room i v))
-    ∙ ap₂ ◌∷◌ (get_or-set_same room i v 0 h) (drop-set-lt (suc i) room i v (omega arith))
-
--- One turn more: the last digit of the rest is stored. The rest has more digits than one, so there is a place before it.
-pub spelt_more : (n first rest : ℕ) (room : List ℕ) → first < length room → 10 ≤ rest → Spelt n first rest room
-    → (0 < first) × Spelt n (first - 1) (rest / 10) (set room first (48 + rest % 10))
-spelt_more n zero rest room h more (few, e) = absurd (omega arith)
-spelt_more n (suc k) rest room h more (few, e) =
-    let back : suc k - 1 ≡ k = omega arith in
-    let text : decimal n ≡ decimal_up_to k (rest / 10) ++ drop (suc k) (set room (suc k) (48 + rest % 10)) =
-    e ∙ ap (λ s. s ++ drop (suc (suc k)) room) (more_digits k rest more)
-    ∙ append_assoc (decimal_up_to k (rest / 10)) ((48 + rest % 10) ∷ []) (drop (suc (suc k)) room)
-    ∙ ap (λ s. decimal_up_to k (rest / 10) ++ s) (sym (from_stored room (suc k) (48 + rest % 10) h)) in
-    rw back (omega arith, (omega arith, text))
-
--- The rest is the first digit, and is stored: what is lent as `&room[first..]`.
-pub spelt_lent : (n first rest : ℕ) (room : List ℕ) → first ≤ 19 → length room ≡ 20 → rest < 10 → Spelt n first rest room
-    → take (20 - first) (drop first (set room first (48 + rest))) ≡ decimal n
-spelt_lent n first rest room inside size one p =
-    take_all (20 - first) _ (simp (length-drop, length-set) (omega arith))
-    ∙ from_stored room first (48 + rest) (omega arith)
-    ∙ sym (p.1 ∙ ap (λ s. s ++ drop (suc first) room) (one_digit first rest one))
 
 -- ---- what the text says
 
@@ -141,3 +104,12 @@ begins_more n [] more (some, first) = absurd (omega arith)
 pub decimal_first : (n : ℕ) → n < 10 ^ 20 → get_or (decimal n) 0 0 ≡ 48 → n ≡ 0
 unfolding decimal
 decimal_first n h = (by_digits Begins (λ m one. (omega arith, λ e. omega arith)) begins_more 19 n h).1
+
+-- ---- the text that the library writes
+
+-- It is the same.
+pub same_decimal : (n : ℕ) → n < 2 ^ 64 → Fmt.decimal n ≡ decimal n
+unfolding decimal
+same_decimal n h =
+    by_digits (λ m s. m < 2 ^ 64 → Fmt.decimal m ≡ s) (λ m one l. decimal_digit m one)
+    (λ m s more e l. decimal_step m more l ∙ ap (λ t. t ++ ((48 + m % 10) ∷ [])) (e (omega arith))) 19 n (omega arith) h

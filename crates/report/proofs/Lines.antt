@@ -1,4 +1,4 @@
--- Laws of lines: a line put piece after piece, how long lines are, and the lines of a refusal and of an acceptance.
+-- Laws of lines: a line written piece after piece, how long lines are, and the lines of a refusal and of an acceptance.
 -- Assumes nothing.
 use mathlib.Core.Path.{◌≡◌}
 use mathlib.Core.List.{List, [], ◌∷◌, ◌++◌, append_assoc, append-nil}
@@ -8,18 +8,19 @@ use native.Mathlib.Omega.{arith}
 use borrow.Author.Tests.{eq-eqb, ne_eqb}
 use lib.ListN.{length, get_or, length-append}
 use Rattle.torus.specs.Sum.{joined}
-use Rattle.answers.specs.Answers.{number, bound, gates}
-use Rattle.answers.specs.declared.Answer.{Answer}
+use Rattle.answers.specs.Answers.{Answer, number, bound, gates}
 use Rattle.report.specs.Text.{ascii, decimal}
-use Rattle.report.specs.Report.{numbers, line, word_line, word_lines, answer_lines, sample_lines, report, Put}
+use Rattle.report.specs.Report.{numbers, line, word_line, word_lines, answer_lines, sample_lines, report}
+use Rattle.report.specs.Inner.{Writes}
+use Rattle.report.specs.declared.Writer.{Writer}
 use Rattle.report.proofs.Decimal.{length_decimal}
-use Rattle.report.proofs.Pieces.{put_put}
+use Rattle.report.proofs.Pieces.{writes_both}
 
 -- A name, a number, and behind them the rest of the line.
-pub put_line : {b m l a name : List ℕ} {at e f g : ℕ} (n : ℕ) (ns : List ℕ)
-    → Put b at name m e → Put m e (ascii " " ++ decimal n) l f → Put l f (line [] ns) a g → Put b at (line name (n ∷ ns)) a g
+pub write_line : {u v w x : Writer} {name : List ℕ} (n : ℕ) (ns : List ℕ)
+    → Writes u name v → Writes v (ascii " " ++ decimal n) w → Writes w (line [] ns) x → Writes u (line name (n ∷ ns)) x
 unfolding line numbers ascii
-put_line n ns p q r = rw (append_assoc (decimal n) (numbers ns) _) (put_put p (put_put q r))
+write_line n ns p q r = rw (append_assoc (decimal n) (numbers ns) _) (writes_both p (writes_both q r))
 
 length_numbers : (ns : List ℕ) → length (numbers ns) ≤ 21 * length ns
 unfolding numbers ascii

@@ -1,6 +1,6 @@
 -- Laws of a text that is put into a slice piece after piece.
 -- Assumes nothing.
-use mathlib.Core.Path.{◌≡◌, ap, sym, ◌∙◌}
+use mathlib.Core.Path.{◌≡◌, refl, ap, sym, ◌∙◌}
 use mathlib.Core.List.{List, [], ◌++◌, append_assoc, append-nil}
 use Prim.Native.Nat.{ℕ, ◌+◌, ◌≤◌}
 use native.Mathlib.Nat.{zero-add}
@@ -10,6 +10,8 @@ use lib.ListN.{length, take, length-append, length-take}
 use lib.Seq.{length-take-le}
 use Rattle.torus.specs.Sum.{joined}
 use Rattle.report.specs.Report.{Put}
+use Rattle.report.specs.Inner.{Writes}
+use Rattle.report.specs.declared.Writer.{Writer}
 
 -- No text.
 pub put_none : {s : List ℕ} {at : ℕ} → Put s at [] s at
@@ -23,12 +25,6 @@ put_put {b} {t = t} {u} {at} p q =
       holds = q.holds ∙ ap (λ l. l ++ u) p.holds ∙ append_assoc (take at b) t u;
     }
 
--- One turn more of a loop that puts part i in its turn i.
-pub put_joined : {b m a : List ℕ} {at e g : ℕ} (f : ℕ → List ℕ) (i : ℕ)
-    → Put b at (joined i f) m e → Put m e (f i) a g → Put b at (joined (i + 1) f) a g
-unfolding joined
-put_joined f i p q = rw (add-one i) (put_put p q)
-
 -- The text lies inside the slice.
 pub put_inside : {b a t : List ℕ} {at e : ℕ} → at ≤ length b → Put b at t a e → e ≤ length a
 put_inside {b} {a} {t} {at} {e} h p =
@@ -39,3 +35,22 @@ put_inside {b} {a} {t} {at} {e} h p =
 -- A text at the front: how long it is, that the slice holds it, and that it lies inside.
 pub put_front : {b a t : List ℕ} {e : ℕ} → Put b 0 t a e → (e ≡ length t) × (take e a ≡ t) × (e ≤ length a)
 put_front {t = t} p = (p.ends ∙ zero-add (length t), p.holds, put_inside (omega arith) p)
+
+-- ---- the same, by a writer
+
+pub writes_none : {w : Writer} → Writes w [] w
+writes_none = record { put = put_none; room = refl; lent = refl }
+
+pub writes_both : {u v w : Writer} {t s : List ℕ} → Writes u t v → Writes v s w → Writes u (t ++ s) w
+writes_both p q = record { put = put_put p.put q.put; room = q.room ∙ p.room; lent = q.lent ∙ p.lent }
+
+-- One turn more of a loop that writes part i in its turn i.
+pub writes_joined : {u v w : Writer} (f : ℕ → List ℕ) (i : ℕ)
+    → Writes u (joined i f) v → Writes v (f i) w → Writes u (joined (i + 1) f) w
+unfolding joined
+writes_joined f i p q = rw (add-one i) (writes_both p q)
+
+-- What is written stands in the slice that was lent to the writer, once it comes back.
+pub written_back : {w v : Writer} {t : List ℕ} (last : List ℕ) → Writes w t v → (w.room.ghost_name ≡ v.room.ghost_name → last ≡ v.room.now)
+    → Put w.room.now w.at t last v.at
+written_back last p back = rw (back (sym p.lent)) p.put

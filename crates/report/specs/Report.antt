@@ -2,8 +2,7 @@
 -- Assumes nothing.
 use Rattle.std.specs.Prelude.{◌≡◌, cond, List, [], ◌∷◌, ◌++◌, ℕ, ◌+◌, eqb, length, get_or, take}
 use Rattle.torus.specs.Sum.{joined}
-use Rattle.answers.specs.Answers.{number, bound, gates}
-use Rattle.answers.specs.declared.Answer.{Answer}
+use Rattle.answers.specs.Answers.{Answer, number, bound, gates}
 use Rattle.report.specs.Text.{ascii, decimal}
 
 -- Numbers on a line, a blank before each.

@@ -1,131 +1,129 @@
-// What the program prints of a job, as text. It is written from the front of a lent slice, piece after piece: each function takes the
-// place where its piece begins and gives the place behind it.
+// What the program prints of a job, as text.
 #![tactic(auto)]
 
-ghost use Rattle.std.specs.Prelude.{◌≡◌, [], ◌∷◌, ◌++◌, ◌+◌, ◌*◌, ◌/◌, ◌≤◌, length, take, drop};
+ghost use Rattle.std.specs.Prelude.{[], ◌∷◌, ◌++◌, ◌+◌, ◌*◌, ◌/◌, ◌≤◌, length, take, drop};
 ghost use Rattle.torus.specs.Bytes.{words};
 ghost use Rattle.report.specs.Text.{ascii, decimal};
 ghost use Rattle.report.specs.Report as Report;
+ghost use Rattle.report.specs.Inner.{Fits, Writes};
 
 use answers::Answer;
 
-// A text.
-fn put(out: &mut [u8], at: usize, text: &[u8]) -> usize
-    requires { at + length text.now ≤ length out.old }
-    ensures { Report.Put out.old at text.now out.new result }
-{
-    let n = text.len();
-    let mut i = 0;
-    while i < n {
-        out[at + i] = text[i];
-        i += 1;
+// Text is written from the front of a lent slice, piece after piece.
+#[derive(Drop)]
+struct Writer<'a> {
+    room: &'a mut [u8],
+    // The place behind the text.
+    at: usize,
+}
+
+impl<'a> Writer<'a> {
+    // A piece.
+    fn put(&mut self, text: &[u8])
+        requires { Fits self.old (length text.now) }
+        ensures { Writes self.old text.now self.new }
+    {
+        let end = self.at + text.len();
+        self.room[self.at..end].copy_from_slice(text);
+        self.at = end;
     }
-    at + n
-}
 
-// A number in decimal. Its digits are made from the last on, at the end of a room for twenty.
-fn put_decimal(out: &mut [u8], at: usize, n: u64) -> usize
-    requires { at + 20 ≤ length out.old }
-    ensures { Report.Put out.old at (decimal n) out.new result }
-{
-    let mut room = [0u8; 20];
-    let mut first = 19;
-    let mut rest = n;
-    while 10 <= rest {
-        room[first] = (48 + rest % 10) as u8;
-        first -= 1;
-        rest /= 10;
+    // A number in decimal.
+    fn decimal(&mut self, n: u64)
+        requires { Fits self.old 20 }
+        ensures { Writes self.old (decimal n) self.new }
+    {
+        let mut digits = [0u8; 20];
+        let first = itoa::write_digits(n, &mut digits, 20);
+        self.put(&digits[first..]);
     }
-    room[first] = (48 + rest) as u8;
-    put(out, at, &room[first..])
-}
 
-// A number on a line: a blank, then the number.
-fn put_number(out: &mut [u8], at: usize, n: u64) -> usize
-    requires { at + 21 ≤ length out.old }
-    ensures { Report.Put out.old at (ascii " " ++ decimal n) out.new result }
-{
-    let blank = put(out, at, b" ");
-    put_decimal(out, blank, n)
-}
-
-// A line of a name and one number.
-fn put_line(out: &mut [u8], at: usize, name: &[u8], n: u64) -> usize
-    requires { at + length name.now + 22 ≤ length out.old }
-    ensures { Report.Put out.old at (Report.line name.now (n ∷ [])) out.new result }
-{
-    let named = put(out, at, name);
-    let numbered = put_number(out, named, n);
-    put(out, numbered, b"\n")
-}
-
-// A line of a name, the number of a word, and the word.
-fn put_word_line(out: &mut [u8], at: usize, name: &[u8], i: usize, w: u32) -> usize
-    requires { at + length name.now + 43 ≤ length out.old }
-    ensures { Report.Put out.old at (Report.line name.now (i ∷ w ∷ [])) out.new result }
-{
-    let named = put(out, at, name);
-    let numbered = put_number(out, named, i as u64);
-    put_line(out, numbered, b"", w as u64)
-}
-
-// A line for each of the n words of a slice.
-fn put_word_lines(out: &mut [u8], at: usize, name: &[u8], ws: &[u8], n: usize) -> usize
-    requires { (length ws.now ≡ 4 * n) × (at + n * (length name.now + 43) ≤ length out.old) }
-    ensures { Report.Put out.old at
-        (Report.word_lines name.now (words ws.now))
-        out.new result }
-{
-    let mut end = at;
-    let mut i = 0;
-    while i < n {
-        end = put_word_line(out, end, name, i, torus::word_at(ws, i));
-        i += 1;
+    // A number on a line: a blank, then the number.
+    fn number(&mut self, n: u64)
+        requires { Fits self.old 21 }
+        ensures { Writes self.old (ascii " " ++ decimal n) self.new }
+    {
+        self.put(b" ");
+        self.decimal(n);
     }
-    end
-}
 
-// A line for each word of a sample, whose first `masks` words are its masks.
-fn put_sample(out: &mut [u8], at: usize, sample: &[u8], masks: usize) -> usize
-    requires { (4 * masks ≤ length sample.now) × (4 * (length sample.now / 4) ≡ length sample.now)
-        × (at + length sample.now / 4 * 47 ≤ length out.old) }
-    ensures { Report.Put out.old at
-        (Report.sample_lines (take masks (words sample.now)) (drop masks (words sample.now)))
-        out.new result }
-{
-    let size = 4 * masks;
-    let masked = put_word_lines(out, at, b"mask", &sample[0..size], masks);
-    put_word_lines(
-        out,
-        masked,
-        b"body",
-        &sample[size..],
-        sample.len() / 4 - masks,
-    )
-}
+    // A line of a name and one number.
+    fn line(&mut self, name: &[u8], n: u64)
+        requires { Fits self.old (length name.now + 22) }
+        ensures { Writes self.old (Report.line name.now (n ∷ [])) self.new }
+    {
+        self.put(name);
+        self.number(n);
+        self.put(b"\n");
+    }
 
-// The lines that are printed of every answer, at the front of a slice: its number and its bound.
-fn put_answer(out: &mut [u8], answer: Answer) -> usize
-    requires { 55 ≤ length out.old }
-    ensures { Report.Put out.old 0 (Report.answer_lines answer) out.new result }
-{
-    let answered = put_line(out, 0, b"answer", answer.number() as u64);
-    put_line(out, answered, b"bound", answer.bound())
+    // A line of a name, the number of a word, and the word.
+    fn word_line(&mut self, name: &[u8], i: usize, w: u32)
+        requires { Fits self.old (length name.now + 43) }
+        ensures { Writes self.old (Report.line name.now (i ∷ w ∷ [])) self.new }
+    {
+        self.put(name);
+        self.number(i as u64);
+        self.line(b"", w as u64);
+    }
+
+    // A line for each word of a slice.
+    fn word_lines(&mut self, name: &[u8], ws: &[u8])
+        requires { Fits self.old (length ws.now / 4 * (length name.now + 43)) }
+        ensures { Writes self.old (Report.word_lines name.now (words ws.now)) self.new }
+    {
+        for i in 0..ws.len() / 4 {
+            self.word_line(name, i, torus::word_at(ws, i));
+        }
+    }
+
+    // A line for each word of a sample, whose first `masks` words are its masks.
+    fn sample(&mut self, sample: &[u8], masks: usize)
+        requires { (4 * masks ≤ length sample.now) × Fits self.old (length sample.now / 4 * 47) }
+        ensures { Writes self.old
+            (Report.sample_lines (take masks (words sample.now)) (drop masks (words sample.now)))
+            self.new }
+    {
+        self.word_lines(b"mask", &sample[..4 * masks]);
+        self.word_lines(b"body", &sample[4 * masks..]);
+    }
+
+    // The lines that are printed of every answer: its number and its bound.
+    fn answer(&mut self, answer: Answer)
+        requires { Fits self.old 55 }
+        ensures { Writes self.old (Report.answer_lines answer) self.new }
+    {
+        self.line(b"answer", answers::number(answer) as u64);
+        self.line(b"bound", answers::bound(answer));
+    }
+
+    // The whole output for an answer. Where it is an acceptance, the sample's first `masks` words are its masks.
+    fn report(&mut self, answer: Answer, sample: &[u8], masks: usize)
+        requires { (4 * masks ≤ length sample.now) × Fits self.old (82 + length sample.now / 4 * 47) }
+        ensures { Writes self.old
+            (Report.report answer (take masks (words sample.now)) (drop masks (words sample.now)))
+            self.new }
+    {
+        self.answer(answer);
+        let ledger = match answer {
+            Ok(ledger) => ledger,
+            Err(_) => return,
+        };
+        self.line(b"gates", ledger.gates);
+        self.sample(sample, masks);
+    }
 }
 
 // The whole output for an answer, at the front of a slice; how long it is. Where the answer is an acceptance, the sample's first
 // `masks` words are its masks.
-pub fn write_report(out: &mut [u8], answer: Answer, sample: &[u8], masks: usize) -> usize
-    requires { (4 * masks ≤ length sample.now) × (4 * (length sample.now / 4) ≡ length sample.now)
-        × (82 + length sample.now / 4 * 47 ≤ length out.old) }
-    ensures { Report.Put out.old 0
+#[tactic(auto, using(crate::proofs::Pieces::written_back))]
+pub fn write_report(room: &mut [u8], answer: Answer, sample: &[u8], masks: usize) -> usize
+    requires { (4 * masks ≤ length sample.now) × (82 + length sample.now / 4 * 47 ≤ length room.old) }
+    ensures { Report.Put room.old 0
         (Report.report answer (take masks (words sample.now)) (drop masks (words sample.now)))
-        out.new result }
+        room.new result }
 {
-    let answered = put_answer(out, answer);
-    if answer.number() != 0 {
-        return answered;
-    }
-    let counted = put_line(out, answered, b"gates", answer.gates());
-    put_sample(out, counted, sample, masks)
+    let mut text = Writer { room, at: 0 };
+    text.report(answer, sample, masks);
+    text.at
 }

@@ -5,11 +5,13 @@
 ghost use Rattle.std.specs.Prelude.{◌≡◌, ◌+◌, ◌*◌, ◌<◌, ◌≤◌, length};
 ghost use Rattle.torus.specs.Bytes.{words};
 ghost use Rattle.butterflies.specs.Same.{Same};
-ghost use Rattle.butterflies.specs.Butterflies.{Ready, Below, Stored, Reduced};
+ghost use Rattle.butterflies.specs.Butterflies.{Below, Stored, Reduced};
 ghost use Rattle.twiddles.specs.Primes.{P1, P2};
 ghost use Rattle.residues.specs.Residues.{residue, Word, Within, Lifted, Summed, Scaled, Added};
 
-// The residue of a word, below 4·p: w itself, or w - 2^32 + 4·p.
+use butterflies::Factor;
+
+// The residue of a word, below 4·p: w itself, or w - 2^32 + 4·p. p is a number here, as it is in butterflies.
 fn lift(w: u32, p: u32) -> u32
     requires { (p < 1073741824) × (4294967296 ≤ 6 * p) }
     ensures { (result < 4 * p) × Same p result (residue p w) }
@@ -26,10 +28,8 @@ pub fn lift_words(a: &mut [u32], s: &[u8], p: u32)
     requires { (p < 1073741824) × (4294967296 ≤ 6 * p) × (length s.now ≡ 4 * length a.old) }
     ensures { Stored (Lifted p (words s.now)) (length a.old) a.old a.new }
 {
-    let mut i: usize = 0;
-    while i < a.len() {
+    for i in 0..a.len() {
         a[i] = lift(torus::word_at(s, i), p);
-        i += 1;
     }
 }
 
@@ -48,10 +48,8 @@ pub fn accumulate(sums: &mut [u64], f: &[u32], g: &[u32])
     ensures { Stored (Summed sums.old f.now g.now) (length sums.old)
         sums.old sums.new }
 {
-    let mut i: usize = 0;
-    while i < sums.len() {
+    for i in 0..sums.len() {
         sums[i] = plus_product(sums[i], f[i], g[i]);
-        i += 1;
     }
 }
 
@@ -74,22 +72,17 @@ pub fn reduce_sums(a: &mut [u32], sums: &[u64], p: u32)
     requires { (0 < p) × (length sums.now ≡ length a.old) }
     ensures { Stored (Reduced p sums.now) (length a.old) a.old a.new }
 {
-    let mut i: usize = 0;
-    while i < a.len() {
+    for i in 0..a.len() {
         a[i] = remainder(sums[i], p);
-        i += 1;
     }
 }
 
 // a times w, modulo p.
-pub fn scale(a: &mut [u32], w: u32, v: u32, p: u32)
-    requires { Ready p w v }
-    ensures { Stored (Scaled p w a.old) (length a.old) a.old a.new }
+pub fn scale(a: &mut [u32], factor: Factor)
+    ensures { Stored (Scaled factor.p factor.w a.old) (length a.old) a.old a.new }
 {
-    let mut i: usize = 0;
-    while i < a.len() {
-        a[i] = butterflies::reduced(butterflies::shoup(a[i], w, v, p), p);
-        i += 1;
+    for x in a.iter_mut() {
+        *x = butterflies::reduced(factor.shoup(*x), factor.p);
     }
 }
 
@@ -99,10 +92,12 @@ fn crt(x: u32, y: u32) -> u64
     ensures { (result < P1 * P2) × Same P1 result x × Same P2 result y }
 {
     let d = y + 3221096451 - x;
-    let k = butterflies::reduced(
-        butterflies::shoup(d, 805143046, 3220701184, twiddles::P2),
-        twiddles::P2,
-    );
+    let inverse = Factor {
+        w: 805143046,
+        v: 3220701184,
+        p: twiddles::P2,
+    };
+    let k = butterflies::reduced(inverse.shoup(d), inverse.p);
     (x as u64) + twiddles::P1 as u64 * (k as u64)
 }
 
@@ -116,7 +111,7 @@ fn word(x: u32, y: u32) -> u32
     if v <= 576418972683954176 {
         l
     } else {
-        std::num::wrapping_sub_u32(l, 3644772353)
+        l.wrapping_sub(3644772353)
     }
 }
 
@@ -126,10 +121,8 @@ pub fn add_words(out: &mut [u8], x: &[u32], y: &[u32])
     ensures { Stored (Added x.now y.now (words out.old)) (length x.now)
         (words out.old) (words out.new) }
 {
-    let mut i: usize = 0;
-    while i < x.len() {
+    for i in 0..x.len() {
         let w = torus::word_at(out, i);
         torus::put_word(out, i, torus::add(w, word(x[i], y[i])));
-        i += 1;
     }
 }

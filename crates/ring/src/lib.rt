@@ -1,8 +1,9 @@
 // Degrees of polynomials modulo X^n + 1, their product by its formula, and their rotation.
 #![tactic(auto)]
 
-ghost use Rattle.std.specs.Prelude.{◌≡◌, ◌+◌, ◌-◌, ◌*◌, ◌%◌, ◌^◌, ◌≤◌, ◌<◌, length};
+ghost use Rattle.std.specs.Prelude.{◌≡◌, ℕ, ◌+◌, ◌-◌, ◌*◌, ◌/◌, ◌%◌, ◌^◌, ◌≤◌, ◌<◌, length};
 ghost use Rattle.torus.specs.Sum.{sum, tabulate};
+ghost use Rattle.torus.specs.Word.{magnitude};
 ghost use Rattle.torus.specs.Bytes.{words};
 ghost use Rattle.ring.specs.Polynomial.{Degree, log, is_degree, coefficients, product, add_product, rotated};
 
@@ -10,18 +11,28 @@ ghost use Rattle.ring.specs.Polynomial.{Degree, log, is_degree, coefficients, pr
 pub fn is_degree(n: u64) -> bool
     ensures { result ≡ is_degree n }
 {
-    if u64::count_ones(n) != 1 {
-        return false;
-    }
-    n <= 1024
+    n.count_ones() == 1 && n <= 1024
 }
 
-// The exponent of a degree: as many zeros stand below its one bit.
+// The exponent of a degree: as many zeros stand below its one bit. That n is a degree is a clause where no struct of factors or rows
+// carries it.
 pub fn exponent(n: usize) -> usize
     requires { Degree n }
     ensures { (result ≡ log n) × (n ≡ 2 ^ result) × (result ≤ 10) }
 {
-    u64::trailing_zeros(n as u64) as usize
+    n.trailing_zeros() as usize
+}
+
+// The factors of a product: two polynomials of one degree, one of them small. Digits are small, and so are the 0s and 1s of a key.
+#[derive(Clone, Copy)]
+pub struct Pair<'a> {
+    pub small: &'a [u8],
+    pub row: &'a [u8],
+    pub n: usize,
+    pub ghost degree: { Degree n },
+    pub ghost small_length: { length small.now ≡ 4 * n },
+    pub ghost row_length: { length row.now ≡ 4 * n },
+    pub ghost small_words: { (i : ℕ) → i < n → magnitude (coefficients (words small.now) i) ≤ 2 ^ 15 },
 }
 
 // The sum of `count` terms of a product: words of small from place `from` up, times words of row from place `top` down.
@@ -31,14 +42,12 @@ fn sum_terms(small: &[u8], row: &[u8], from: usize, top: usize, count: usize) ->
         * coefficients (words row.now) (top - i)) % 2 ^ 32 }
 {
     let mut total = 0;
-    let mut i = 0;
-    while i < count {
+    for i in 0..count {
         let term = torus::mul(
             torus::word_at(small, from + i),
             torus::word_at(row, top - i),
         );
         total = torus::add(total, term);
-        i += 1;
     }
     total
 }
@@ -53,40 +62,39 @@ fn coefficient(small: &[u8], row: &[u8], n: usize, k: usize) -> u32
     torus::sub(inside, passed)
 }
 
-// To out, the product of small and row, coefficient by coefficient.
+// To out, the product of small and row, coefficient by coefficient. n stands beside the slices for speed: a caller that has tested how small
+// it is gets loops of that size, and a length that is divided tells the compiler nothing.
 pub fn add_by_coefficients(out: &mut [u8], small: &[u8], row: &[u8], n: usize)
     requires { (length out.old ≡ 4 * n) × (length small.now ≡ 4 * n) × (length row.now ≡ 4 * n) }
     ensures { words out.new
         ≡ add_product n (words out.old) (words small.now) (words row.now) }
 {
-    let mut k = 0;
-    while k < n {
+    for k in 0..n {
         let w = torus::word_at(out, k);
         torus::put_word(out, k, torus::add(w, coefficient(small, row, n, k)));
-        k += 1;
     }
 }
 
-// The word of X^(-r)·p at place t.
-fn rotated_word(p: &[u8], n: usize, r: usize, t: usize) -> u32
-    requires { (length p.now ≡ 4 * n) × (n ≤ 1024) × (r ≤ n) × (t < n) }
-    ensures { result ≡ rotated n r (coefficients (words p.now)) t }
+// The word of X^(-r)·p at place t, where p has n words.
+fn rotated_word(p: &[u8], r: usize, t: usize) -> u32
+    requires { (r ≤ length p.now / 4) × (t < length p.now / 4) }
+    ensures { result ≡ rotated (length p.now / 4) r (coefficients (words p.now)) t }
 {
+    let n = p.len() / 4;
     let from = t + r;
     if from < n {
-        return torus::word_at(p, from);
+        torus::word_at(p, from)
+    } else {
+        torus::sub(0, torus::word_at(p, from - n))
     }
-    torus::sub(0, torus::word_at(p, from - n))
 }
 
 // The polynomial X^(-r)·p: every term comes down by r places, and one that passes the end returns with its sign changed.
-pub fn rotate(out: &mut [u8], p: &[u8], n: usize, r: usize)
-    requires { (length out.old ≡ 4 * n) × (length p.now ≡ 4 * n) × (n ≤ 1024) × (r ≤ n) }
-    ensures { words out.new ≡ tabulate n (rotated n r (coefficients (words p.now))) }
+pub fn rotate(out: &mut [u8], p: &[u8], r: usize)
+    requires { (length p.now ≡ length out.old) × (r ≤ length out.old / 4) }
+    ensures { words out.new ≡ tabulate (length out.old / 4) (rotated (length out.old / 4) r (coefficients (words p.now))) }
 {
-    let mut t = 0;
-    while t < n {
-        torus::put_word(out, t, rotated_word(p, n, r, t));
-        t += 1;
+    for t in 0..p.len() / 4 {
+        torus::put_word(out, t, rotated_word(p, r, t));
     }
 }

@@ -4,151 +4,59 @@
 
 ghost use Rattle.std.specs.Prelude.{◌≡◌, suc, ◌*◌, ◌≤◌, length};
 ghost use Rattle.torus.specs.Bytes.{words};
-ghost use Rattle.gadget.specs.Digits.{Lawful};
-ghost use Rattle.ring.specs.Polynomial.{Degree};
 ghost use Rattle.rns.specs.Exact.{add_rows};
-ghost use Rattle.row_terms.specs.Rows.{block_size, row_part, row_digits};
+ghost use Rattle.row_terms.specs.Rows.{row_part, row_digits};
 
-// To out, the terms of all rows at degrees up to 4. Room is cleared once for all products, and is no larger than it must be: to clear
-// that of a great degree takes longer than the products of a small one.
-fn add_rows_tiny(out: &mut [u8], block: &[u8], x: &[u8], k: usize, n: usize, g: u32, l: u32)
-    requires { Degree n × Lawful g l × (length out.old ≡ 4 * (suc k * n))
-        × (length block.now ≡ 4 * block_size n k l) × (length x.now ≡ 4 * (suc k * n)) × (n ≤ 4) }
-    ensures { words out.new ≡ add_rows n k (suc k * l) (row_digits n g l (words x.now))
-        (row_part n k (words block.now)) (words out.old) }
+use row_terms::Terms;
+
+// To out, the terms of all rows by schoolbook, at degrees for which BYTES bytes and WORDS words are room enough. Room is cleared once for
+// all products, and is to be no larger than it must be: to clear that of a great degree takes longer than the products of a small one.
+fn add_rows_by_schoolbook<const BYTES: usize, const WORDS: usize>(out: &mut [u8], terms: &Terms)
+    requires { (let t = terms.now in (length out.old ≡ 4 * (suc t.k * t.n)) × (4 * t.n ≤ BYTES) × (BYTES ≤ 4096)
+        × (3 * t.n ≤ WORDS) × (WORDS ≤ 3072)) }
+    ensures { (let t = terms.now in
+        words out.new ≡ add_rows t.n t.k (suc t.k * t.gadget.l) (row_digits t.n t.gadget.g t.gadget.l (words t.x.now))
+        (row_part t.n t.k (words t.block.now)) (words out.old)) }
 {
-    let mut room = [0u8; 16];
-    let mut table = [0u32; 8];
-    let mut sums = [0u32; 4];
-    schoolbook_rows::add_terms(
-        out,
-        &mut room[0..4 * n],
-        &mut table,
-        &mut sums,
-        block,
-        x,
-        k,
-        n,
-        g,
-        l,
-    );
+    let mut digits = [0u8; BYTES];
+    let mut room = [0u32; WORDS];
+    let digits = &mut digits[..];
+    schoolbook_rows::add_terms(out, &mut digits[0..4 * terms.n], &mut room, terms);
 }
 
-// The same at degrees up to 64, where no other way is faster.
-fn add_rows_small(out: &mut [u8], block: &[u8], x: &[u8], k: usize, n: usize, g: u32, l: u32)
-    requires { Degree n × Lawful g l × (length out.old ≡ 4 * (suc k * n))
-        × (length block.now ≡ 4 * block_size n k l) × (length x.now ≡ 4 * (suc k * n)) × (n ≤ 64) }
-    ensures { words out.new ≡ add_rows n k (suc k * l) (row_digits n g l (words x.now))
-        (row_part n k (words block.now)) (words out.old) }
+// The same by transforms. The sums of row_sums have room for one mask and the body.
+fn add_rows_by_transforms(out: &mut [u8], terms: &Terms)
+    requires { (let t = terms.now in (length out.old ≡ 4 * (suc t.k * t.n)) × (t.k ≤ 1)) }
+    ensures { (let t = terms.now in
+        words out.new ≡ add_rows t.n t.k (suc t.k * t.gadget.l) (row_digits t.n t.gadget.g t.gadget.l (words t.x.now))
+        (row_part t.n t.k (words t.block.now)) (words out.old)) }
 {
-    let mut room = [0u8; 256];
-    let mut table = [0u32; 128];
-    let mut sums = [0u32; 64];
-    schoolbook_rows::add_terms(
-        out,
-        &mut room[0..4 * n],
-        &mut table,
-        &mut sums,
-        block,
-        x,
-        k,
-        n,
-        g,
-        l,
-    );
+    let mut digits = [0u8; 4096];
+    row_sums::add_rows(out, &mut digits[0..4 * terms.n], terms);
 }
 
-// The same at every degree.
-fn add_rows_large(
-    out: &mut [u8],
-    room: &mut [u8],
-    block: &[u8],
-    x: &[u8],
-    k: usize,
-    n: usize,
-    g: u32,
-    l: u32,
-)
-    requires { Degree n × Lawful g l × (length out.old ≡ 4 * (suc k * n)) × (length room.old ≡ 4 * n)
-        × (length block.now ≡ 4 * block_size n k l) × (length x.now ≡ 4 * (suc k * n)) }
-    ensures { words out.new ≡ add_rows n k (suc k * l) (row_digits n g l (words x.now))
-        (row_part n k (words block.now)) (words out.old) }
-{
-    let mut table = [0u32; 2048];
-    let mut sums = [0u32; 1024];
-    schoolbook_rows::add_terms(out, room, &mut table, &mut sums, block, x, k, n, g, l);
+// How many words of x are not 0. It decides on speed alone, so that nothing is promised of it.
+fn nonzero_words(x: &[u8]) -> usize {
+    (0..x.len() / 4)
+        .filter(|i| torus::word_at(x, *i) != 0)
+        .count()
 }
 
-// 1, or 0 for the word 0.
-fn one_unless_zero(w: u32) -> usize
-    ensures { result ≤ 1 }
+// To out, the terms of all rows of the block. Up to degree 64 no other way is faster than schoolbook, nor where the sample has so few
+// words that are not 0, as the difference of two entries of a lookup has: schoolbook skips the digits of the others.
+pub fn add_rows(out: &mut [u8], terms: &Terms)
+    requires { length out.old ≡ 4 * (suc terms.now.k * terms.now.n) }
+    ensures { (let t = terms.now in
+        words out.new ≡ add_rows t.n t.k (suc t.k * t.gadget.l) (row_digits t.n t.gadget.g t.gadget.l (words t.x.now))
+        (row_part t.n t.k (words t.block.now)) (words out.old)) }
 {
-    if w == 0 { 0 } else { 1 }
-}
-
-// How many of the n words of x are not 0. It decides on speed alone, so that nothing is promised of it.
-fn nonzero_words(x: &[u8], n: usize) -> usize
-    requires { length x.now ≡ 4 * n }
-{
-    let mut count: usize = 0;
-    let mut i: usize = 0;
-    while i < n {
-        count += one_unless_zero(torus::word_at(x, i));
-        i += 1;
+    if terms.n <= 4 {
+        add_rows_by_schoolbook::<16, 12>(out, terms);
+    } else if terms.n <= 64 {
+        add_rows_by_schoolbook::<256, 192>(out, terms);
+    } else if 1 < terms.k || nonzero_words(terms.x) < 64 {
+        add_rows_by_schoolbook::<4096, 3072>(out, terms);
+    } else {
+        add_rows_by_transforms(out, terms);
     }
-    count
-}
-
-// Whether x has so few words that are not 0, as the difference of two entries of a lookup has, that row by row is faster:
-// schoolbook skips the digits of the others.
-fn few_words(x: &[u8], k: usize, n: usize) -> bool
-    requires { (length x.now ≡ 4 * (suc k * n)) × (k ≤ 1) }
-{
-    nonzero_words(x, (k + 1) * n) < 64
-}
-
-// To out, the terms of all rows, by the faster of two ways. The sums of row_sums have room for one mask and the body.
-fn add_rows_either(
-    out: &mut [u8],
-    room: &mut [u8],
-    block: &[u8],
-    x: &[u8],
-    k: usize,
-    n: usize,
-    g: u32,
-    l: u32,
-)
-    requires { Degree n × Lawful g l × (length out.old ≡ 4 * (suc k * n)) × (length room.old ≡ 4 * n)
-        × (length block.now ≡ 4 * block_size n k l) × (length x.now ≡ 4 * (suc k * n)) }
-    ensures { words out.new ≡ add_rows n k (suc k * l) (row_digits n g l (words x.now))
-        (row_part n k (words block.now)) (words out.old) }
-{
-    if 1 < k {
-        add_rows_large(out, room, block, x, k, n, g, l);
-        return;
-    }
-    if few_words(x, k, n) {
-        add_rows_large(out, room, block, x, k, n, g, l);
-        return;
-    }
-    row_sums::add_rows(out, room, block, x, k, n, g, l);
-}
-
-// To out, the terms of all rows of the block.
-pub fn add_rows(out: &mut [u8], block: &[u8], x: &[u8], k: usize, n: usize, g: u32, l: u32)
-    requires { Degree n × Lawful g l × (length out.old ≡ 4 * (suc k * n))
-        × (length block.now ≡ 4 * block_size n k l) × (length x.now ≡ 4 * (suc k * n)) }
-    ensures { words out.new ≡ add_rows n k (suc k * l) (row_digits n g l (words x.now))
-        (row_part n k (words block.now)) (words out.old) }
-{
-    if n <= 4 {
-        add_rows_tiny(out, block, x, k, n, g, l);
-        return;
-    }
-    if n <= 64 {
-        add_rows_small(out, block, x, k, n, g, l);
-        return;
-    }
-    let mut room = [0u8; 4096];
-    add_rows_either(out, &mut room[0..4 * n], block, x, k, n, g, l);
 }

@@ -7,7 +7,7 @@ use Prim.Native.Nat.{ℕ, zero, suc, ◌+◌, ◌*◌, ◌/◌, ◌%◌, ◌≤�
 use native.Mathlib.Nat.{le_of_suc-le-suc, eq-or-lt_of_le, mul-le-mul, mul-zero, zero-lt-suc, mul-le-mul_left, mul-le-mul_right, div-lt_iff_lt-mul}
 use native.Mathlib.Numerals.{add-one}
 use native.Mathlib.Omega.{arith}
-use lib.ListN.{get_or, take, drop}
+use lib.ListN.{get_or, length, take, drop}
 use Rattle.torus.specs.Sum.{tabulate}
 use Rattle.torus.specs.Bytes.{words}
 use Rattle.torus.proofs.Lists.{tabulate_at, tabulate_cong}
@@ -20,7 +20,8 @@ use Rattle.twiddles.specs.declared.Prime.{Prime}
 use Rattle.residues.specs.Residues.{Within}
 use Rattle.held_sums.specs.Sums.{Held, OneMore, Told, ReadBack}
 use Rattle.held_sums.proofs.HeldLaws.{none_more}
-use Rattle.row_terms.specs.Rows.{block_size, row, row_digits, digits_from, rows_from}
+use Rattle.row_terms.specs.declared.Terms.{Terms}
+use Rattle.row_terms.specs.Rows.{Operands, block_size, row, row_digits, digits_from, rows_from}
 
 -- One row more is held.
 pub held_more : (prime : Prime) (N k g L : ℕ) (block x : List ℕ) (r j : ℕ) (sums sums' : List ℕ)
@@ -81,6 +82,10 @@ agree_more i f h e j l = go (eq-or-lt_of_le (le_of_suc-le-suc (rw (add-one i) at
     go : (j ≡ i) ⊎ (j < i) → f j ≡ 0
     go (inl g) = ap f g ∙ e
     go (inr g) = h j g
+
+-- The terms of an external product, with room for a digit polynomial, are what Operands asks for.
+pub operands : (t : Terms) (room : List ℕ) → length room ≡ 4 * t.n → Operands t.n t.k t.gadget.g t.gadget.l room t.block.now t.x.now
+operands t room e = record { lawful = t.gadget.lawful; room_length = e; block_length = t.block_length; x_length = t.x_length }
 
 -- A block has no fewer words than rows.
 pub rows_fit : (k l n : ℕ) → 0 < n → suc k * l ≤ suc k * l * (suc k * n)

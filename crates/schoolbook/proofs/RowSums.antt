@@ -6,8 +6,8 @@ use mathlib.Core.List.{List}
 use Prim.Native.Nat.{ℕ, zero, suc, ◌+◌, ◌-◌, ◌*◌, ◌%◌, ◌^◌, ◌≤◌, ◌<◌}
 use native.Mathlib.Nat.{zero-add, zero-mul, add_assoc, add_comm, mul_comm, eq-or-lt_of_le}
 use native.Mathlib.Omega.{arith}
-use lib.ListN.{length, get_or, set, length-set}
-use lib.Seq.{get_or-set_same, get_or-set_other}
+use lib.ListN.{length, get_or, set, take, drop, length-set}
+use lib.Seq.{get_or-set_same, get_or-set_other, get_or-take, get_or-drop}
 use Rattle.torus.specs.Sum.{sum, tabulate}
 use Rattle.torus.specs.Word.{add, sub, mul}
 use Rattle.torus.proofs.Sums.{sum_cong, sum_mul, summed_more}
@@ -56,6 +56,20 @@ unfolding row_sum
 row_more n m d y t acc acc' ed before step k b =
     step k b ∙ summed_more m _ _ _ (before k b) (ap (λ c. mul c (coefficients t (m + 1 + k))) ed)
 
+-- The same as the code goes, down from the i-th row: the words of the table are a part of it that is lent.
+pub row_down : (n i q d : ℕ) (y t acc acc' : List ℕ) → 1 ≤ i → i ≤ n → n ≤ q → d ≡ coefficients y (i - 1)
+    → Agree n (coefficients acc) (λ k. row_sum n y t (n - i) k % 2 ^ 32)
+    → Agree n (coefficients acc') (λ k. add (coefficients acc k) (mul d (coefficients (take q (drop (n - (i - 1)) t)) k)))
+    → Agree n (coefficients acc') (λ k. row_sum n y t (n - (i - 1)) k % 2 ^ 32)
+row_down n i q d y t acc acc' some within whole ed before step =
+    let e : n - (i - 1) ≡ n - i + 1 = omega arith in
+    let place : i - 1 ≡ n - (n - i + 1) = omega arith in
+    rw e (row_more n (n - i) d y t acc acc' (ed ∙ ap (coefficients y) place) before
+    (λ k b.
+    step k b
+    ∙ ap (λ x. add (coefficients acc k) (mul d x))
+    (get_or-take q (drop (n - (i - 1)) t) k 0 (omega arith) ∙ get_or-drop (n - (i - 1)) t k 0 ∙ ap (λ j. coefficients t (j + k)) e)))
+
 -- A sum, with its first term apart.
 sum_first : (n : ℕ) (f : ℕ → ℕ) → sum (suc n) f ≡ f 0 + sum n (λ i. f (suc i))
 unfolding sum
@@ -70,7 +84,7 @@ sum_reverse (suc n) f =
     let first : suc n - (n + 1) ≡ 0 = omega arith in
     ap₂ ◌+◌ (sum_cong n _ _ (λ j l. ap f (omega arith)) ∙ sum_reverse n (λ i. f (suc i))) (ap f first) ∙ add_comm _ (f 0) ∙ sym (sum_first n f)
 
-module _ (n : ℕ) (y p t : List ℕ) (words : (i : ℕ) → coefficients p i < 2 ^ 32) (signs : BothSigns n p n t) (k : ℕ) (l : k < n) where
+module _ (n : ℕ) (y p t : List ℕ) (words : (i : ℕ) → i < n + n → coefficients t i < 2 ^ 32) (signs : BothSigns n p n t) (k : ℕ) (l : k < n) where
   low : (i : ℕ) → i < suc k → coefficients t (n - i + k) ≡ coefficients p (k - i)
   low i li = let e : n - i + k ≡ n + (k - i) = omega arith in ap (coefficients t) e ∙ (signs (k - i) (omega arith)).1
 
@@ -80,7 +94,7 @@ module _ (n : ℕ) (y p t : List ℕ) (words : (i : ℕ) → coefficients p i < 
       let j : ℕ = n + k - (suc k + i) in
       let e : n - (suc k + i) + k ≡ j = omega arith in
       let lj : j < n = omega arith in
-      let word : coefficients p j < 2 ^ 32 = words j in
+      let word : coefficients p j < 2 ^ 32 = rw ((signs j lj).1) at (words (n + j) (omega arith)) in
       let negated : Near (2 ^ 32) 0 (coefficients t (n - (suc k + i) + k)) (4294967295 * coefficients p j) =
       congruent_trans (near_path (ap (coefficients t) e ∙ (signs j lj).0)) (congruent_trans (sub_near 0 (coefficients p j) (omega arith)) (near_path (zero-add _))) in
       congruent_trans (congruent_scale (coefficients y (suc k + i)) negated) (near_path (omega arith))
@@ -102,7 +116,7 @@ module _ (n : ℕ) (y p t : List ℕ) (words : (i : ℕ) → coefficients p i < 
       ∙ sym (minus_word (inside (coefficients y) (coefficients p) k) (passed n (coefficients y) (coefficients p) k))
 
 -- The sums added to out make up the polynomial with the product added.
-pub sums_added : (n : ℕ) (out y p t sums : List ℕ) → ((i : ℕ) → coefficients p i < 2 ^ 32) → BothSigns n p n t
+pub sums_added : (n : ℕ) (out y p t sums : List ℕ) → ((i : ℕ) → i < n + n → coefficients t i < 2 ^ 32) → BothSigns n p n t
     → Agree n (coefficients sums) (λ k. row_sum n y t n k % 2 ^ 32)
     → tabulate n (λ k. add (coefficients out k) (coefficients sums k)) ≡ add_product n out y p
 unfolding add_product

@@ -5,10 +5,11 @@ use mathlib.Core.List.{List}
 use Prim.Native.Nat.{ℕ, ◌*◌}
 use lib.ListN.{length}
 use Rattle.torus.specs.Bytes.{words}
+use Rattle.std.specs.Prelude.{Ok}
+use Rattle.answers.specs.Checks.{passed, ◌or_else◌}
 use Rattle.answers.specs.Checks as Check
-use Rattle.answers.specs.Answers.{◌or_else◌, number, greatest_magnitude}
-use Rattle.answers.specs.declared.Answer.TheVariants.{Accepted}
-use Rattle.answers.proofs.Laws.{before, went_on, first_or_else, triple_or_else, first_none, first_met, exact_held, exact_met, bit_held, bit_met}
+use Rattle.answers.specs.Answers.{number, greatest_magnitude}
+use Rattle.answers.proofs.Laws.{or_else_assoc, before, went_on, both_passed, both_pass, exact_held, exact_met, bit_held, bit_met}
 use Rattle.trlwe.proofs.Accepted.{key_fits, key_passes}
 use Rattle.trgsw.specs.declared.Parameters.{Parameters}
 use Rattle.trgsw.specs.Parameters.{LawfulScheme, parameters, scheme_refusal, key_size, row_count, block_size}
@@ -28,11 +29,11 @@ pub record Lengths (p : Parameters) (key masks errors block : List ℕ) : Type 0
   pub errors_length : length errors ≡ 4 * (row_count p * p.N)
   pub block_length : length block ≡ 4 * block_size p
 
-pub lengths_held : (p : Parameters) (key masks errors block : List ℕ) → lengths p key masks errors block ≡ 0 → Lengths p key masks errors block
+pub lengths_held : (p : Parameters) (key masks errors block : List ℕ) → lengths p key masks errors block ≡ passed → Lengths p key masks errors block
 lengths_held p key masks errors block e =
-    let key = first_none (Check.exact (length key) (key_size p)) _ e in
-    let masks = first_none (Check.exact (length masks) (row_count p * key_size p)) _ key.1 in
-    let written = first_none (Check.exact (length errors) (row_count p * p.N)) (Check.exact (length block) (block_size p)) masks.1 in
+    let key = both_passed (Check.exact (length key) (key_size p)) _ e in
+    let masks = both_passed (Check.exact (length masks) (row_count p * key_size p)) _ key.1 in
+    let written = both_passed (Check.exact (length errors) (row_count p * p.N)) (Check.exact (length block) (block_size p)) masks.1 in
     record {
       key_length = exact_held _ _ key.0;
       masks_length = exact_held _ _ masks.0;
@@ -40,10 +41,10 @@ lengths_held p key masks errors block e =
       block_length = exact_held _ _ written.1;
     }
 
-lengths_met : (p : Parameters) (key masks errors block : List ℕ) → Lengths p key masks errors block → lengths p key masks errors block ≡ 0
+lengths_met : (p : Parameters) (key masks errors block : List ℕ) → Lengths p key masks errors block → lengths p key masks errors block ≡ passed
 lengths_met p key masks errors block ok =
-    first_met _ _ (exact_met _ _ ok.key_length)
-    (first_met _ _ (exact_met _ _ ok.masks_length) (first_met _ _ (exact_met _ _ ok.errors_length) (exact_met _ _ ok.block_length)))
+    both_pass _ _ (exact_met _ _ ok.key_length)
+    (both_pass _ _ (exact_met _ _ ok.masks_length) (both_pass _ _ (exact_met _ _ ok.errors_length) (exact_met _ _ ok.block_length)))
 
 module _ (c : SelectorInput) where
   abbrev set : Parameters
@@ -51,37 +52,31 @@ module _ (c : SelectorInput) where
 
   -- The rows of the call's answer, taken together as the code takes them.
   pub selector_checks : (scheme_refusal c.scheme or_else lengths set c.key c.masks c.errors c.block or_else contents c.bit c.key
-      or_else Accepted (record { bound = greatest_magnitude (words c.errors); gates = 0 })) ≡ encrypt_selector c
+      or_else Ok (record { bound = greatest_magnitude (words c.errors); gates = 0 })) ≡ encrypt_selector c
   unfolding encrypt_selector
-  selector_checks =
-      let key : ℕ = Check.exact (length c.key) (key_size set) in
-      ap (λ a. scheme_refusal c.scheme or_else lengths set c.key c.masks c.errors c.block or_else a) (first_or_else (Check.bit c.bit) (Check.key (words c.key)) _)
-      ∙ ap (λ a. scheme_refusal c.scheme or_else a)
-      (first_or_else key _ _ ∙ ap (λ a. key or_else a)
-      (triple_or_else (Check.exact (length c.masks) (row_count set * key_size set)) (Check.exact (length c.errors) (row_count set * set.N))
-      (Check.exact (length c.block) (block_size set)) _))
+  selector_checks = simp or_else_assoc
 
   pub selector_accepted : number (encrypt_selector c) ≡ 0 → Selectable c
   selector_accepted e =
       let told = before (scheme_refusal c.scheme) _ (ap number selector_checks ∙ e) in
       let fit = before (lengths set c.key c.masks c.errors c.block) _ told.1 in
       let words_fit = before (contents c.bit c.key) _ fit.1 in
-      let passed = first_none (Check.bit c.bit) (Check.key (words c.key)) words_fit.0 in
+      let tested = both_passed (Check.bit c.bit) (Check.key (words c.key)) words_fit.0 in
       let scheme = scheme_held c.scheme told.0 in
       let long = lengths_held set c.key c.masks c.errors c.block fit.0 in
       record {
         scheme = scheme;
         rows = record {
-          key_fits = key_fits set.N set.k c.key scheme.degree long.key_length passed.1;
+          key_fits = key_fits set.N set.k c.key scheme.degree long.key_length tested.1;
           lawful = scheme.gadget;
-          bit = bit_held c.bit passed.0;
+          bit = bit_held c.bit tested.0;
           masks_length = long.masks_length;
           errors_length = long.errors_length;
         };
         block_length = long.block_length;
       }
 
-  pub selector_accepts : Selectable c → encrypt_selector c ≡ Accepted (record { bound = greatest_magnitude (words c.errors); gates = 0 })
+  pub selector_accepts : Selectable c → encrypt_selector c ≡ Ok (record { bound = greatest_magnitude (words c.errors); gates = 0 })
   selector_accepts ok =
       sym selector_checks
       ∙ went_on _ _ (scheme_met c.scheme ok.scheme)
@@ -91,4 +86,4 @@ module _ (c : SelectorInput) where
         errors_length = ok.rows.errors_length;
         block_length = ok.block_length;
       }))
-      ∙ went_on _ _ (first_met _ _ (bit_met c.bit ok.rows.bit) (key_passes set.N set.k c.key ok.rows.key_fits))
+      ∙ went_on _ _ (both_pass _ _ (bit_met c.bit ok.rows.bit) (key_passes set.N set.k c.key ok.rows.key_fits))

@@ -1,14 +1,14 @@
 -- The public call that encrypts a selector: its whole answer, and what it leaves in the slice that it writes. The answer has a line for each
 -- row of document 01's table of returned numbers that applies; those of the parameter set stand together.
 -- Assumes nothing.
-use Rattle.std.specs.Prelude.{List, ℕ, ◌*◌, length}
+use Rattle.std.specs.Prelude.{Ok, List, ℕ, ◌*◌, length}
 use Rattle.torus.specs.Bytes.{words, bytes}
+use Rattle.answers.specs.Checks.{◌or_else◌}
 use Rattle.answers.specs.Checks as Check
-use Rattle.answers.specs.Answers.{◌or_else◌, greatest_magnitude, after}
-use Rattle.answers.specs.declared.Answer.{Answer}
-use Rattle.answers.specs.declared.Answer.TheVariants.{Accepted}
+use Rattle.answers.specs.Answers.{Answer, greatest_magnitude, after}
 use Rattle.trgsw.specs.declared.Scheme.{Scheme}
 use Rattle.trgsw.specs.Parameters.{parameters, scheme_refusal, key_size, row_count, block_size}
+use Rattle.selectors.specs.declared.Lent.{Lent}
 use Rattle.selectors.specs.Encrypted.{encrypted_block}
 
 -- The input of one encryption: what it is told, and its slices as lists of bytes, as they are lent. It writes the last.
@@ -20,6 +20,17 @@ pub record SelectorInput : Type 0 where
   pub errors : List ℕ
   pub block : List ℕ
 
+-- That of a call that is lent these.
+abbrev pub selector_of : (lent : Lent) (block : List ℕ) → SelectorInput
+selector_of lent block = record {
+  scheme = lent.scheme;
+  bit = lent.bit;
+  key = lent.key.now;
+  masks = lent.masks.now;
+  errors = lent.errors.now;
+  block = block;
+}
+
 -- "Encrypt a selector: masks and errors for all rows are lent; it reports the same": the greatest error magnitude as bound.
 unfoldable pub encrypt_selector : SelectorInput → Answer
 encrypt_selector c =
@@ -29,7 +40,7 @@ encrypt_selector c =
     or_else Check.exact (length c.errors) (row_count p * p.N) or_else Check.exact (length c.block) (block_size p)
     or_else Check.bit c.bit
     or_else Check.key (words c.key)
-    or_else Accepted (record { bound = greatest_magnitude (words c.errors); gates = 0 })
+    or_else Ok (record { bound = greatest_magnitude (words c.errors); gates = 0 })
 
 -- What it leaves in the block's slice.
 unfoldable pub encrypt_selector_block : SelectorInput → List ℕ

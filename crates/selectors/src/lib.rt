@@ -6,16 +6,25 @@ ghost use Rattle.torus.specs.Sum.{tabulate, chunk};
 ghost use Rattle.torus.specs.Word as W;
 ghost use Rattle.torus.specs.Bytes.{words};
 ghost use Rattle.gadget.specs.Digits.{Lawful};
-ghost use Rattle.answers.specs.Answers.{number};
-ghost use Rattle.trgsw.specs.Parameters.{Sized, key_size, sample_size, row_count, block_size};
+ghost use Rattle.trgsw.specs.Parameters.{key_size, sample_size, row_count, block_size};
 ghost use Rattle.trgsw.specs.Block as Block;
 ghost use Rattle.selectors.specs.Encrypted as Encrypted;
 ghost use Rattle.selectors.specs.Calls as Calls;
 ghost use Rattle.selectors.specs.Inner as Inner;
 
-use answers::{Answer, Ledger};
+use answers::{Answer, Checked, Ledger};
 use row_terms::place;
-use trgsw::{Parameters, Scheme};
+use trgsw::{Bounded, Parameters, Scheme};
+
+// What the encryption of a selector reads: what it is told, the bit, and the slices that are lent to it: masks and errors for all rows.
+#[derive(Clone, Copy)]
+pub struct Lent<'a> {
+    pub scheme: Scheme,
+    pub bit: u64,
+    pub key: &'a [u8],
+    pub masks: &'a [u8],
+    pub errors: &'a [u8],
+}
 
 // To the words of row r, those of its gadget row of the bit m.
 fn add_gadget(row: &mut [u8], p: Parameters, m: u32, r: usize)
@@ -28,132 +37,80 @@ fn add_gadget(row: &mut [u8], p: Parameters, m: u32, r: usize)
     torus::put_word(row, at, torus::add(torus::word_at(row, at), w));
 }
 
-// Row r of the block of the bit m: an encryption of 0 with the masks and errors of this row, plus the gadget row.
-fn write_row(
-    row: &mut [u8],
-    key: &[u8],
-    masks: &[u8],
-    errors: &[u8],
-    p: Parameters,
-    m: u32,
-    r: usize,
-)
-    requires { Inner.Rows p m key.now masks.now errors.now × (r < row_count p) × (length row.old ≡ 4 * sample_size p) }
-    ensures { words row.new ≡ Encrypted.encrypted_row p m (words key.now)
-        (chunk (key_size p) r (words masks.now)) (chunk p.N r (words errors.now)) r }
+// Row r of the block: an encryption of 0 with the masks and errors of this row, plus the gadget row.
+fn write_row(row: &mut [u8], lent: &Lent, p: Parameters, r: usize)
+    requires { Inner.Rows p lent.now.bit lent.now.key.now lent.now.masks.now lent.now.errors.now
+        × (r < row_count p) × (length row.old ≡ 4 * sample_size p) }
+    ensures { words row.new ≡ Encrypted.encrypted_row p lent.now.bit (words lent.now.key.now)
+        (chunk (key_size p) r (words lent.now.masks.now)) (chunk p.N r (words lent.now.errors.now)) r }
 {
     let size = 4 * p.N;
     let masks_size = p.k * size;
     let a = r * masks_size;
     let e = r * size;
-    trlwe::encrypt_zero(
-        row,
+    let key = trlwe::SecretKey {
+        k: p.k,
+        n: p.N,
+        polynomials: lent.key,
+    };
+    let zero = trlwe::Encryption {
         key,
-        &masks[a..a + masks_size],
-        &errors[e..e + size],
-        p.k,
-        p.N,
-    );
-    add_gadget(row, p, m, r);
+        masks: &lent.masks[a..a + masks_size],
+        errors: &lent.errors[e..e + size],
+    };
+    trlwe::encrypt_zero(row, &zero);
+    add_gadget(row, p, lent.bit as u32, r);
 }
 
-// The block of the bit m.
-fn encrypt(block: &mut [u8], key: &[u8], masks: &[u8], errors: &[u8], p: Parameters, m: u32)
-    requires { Inner.Rows p m key.now masks.now errors.now × (length block.old ≡ 4 * block_size p) }
-    ensures { words block.new ≡ Encrypted.encrypted_block p m
-        (words key.now) (words masks.now) (words errors.now) }
+// The block of the bit.
+fn encrypt(block: &mut [u8], lent: &Lent, p: Parameters)
+    requires { Inner.Rows p lent.now.bit lent.now.key.now lent.now.masks.now lent.now.errors.now
+        × (length block.old ≡ 4 * block_size p) }
+    ensures { words block.new ≡ Encrypted.encrypted_block p lent.now.bit
+        (words lent.now.key.now) (words lent.now.masks.now) (words lent.now.errors.now) }
 {
+    // By hand: the set may be beyond the limits of calls, which `Bounded` tells.
     let rows = (p.k + 1) * p.L as usize;
     let size = (p.k + 1) * (4 * p.N);
-    let mut r = 0;
-    while r < rows {
+    for r in 0..rows {
         let at = r * size;
-        write_row(&mut block[at..at + size], key, masks, errors, p, m, r);
-        r += 1;
+        write_row(&mut block[at..at + size], lent, p, r);
     }
 }
 
 // 5: the lengths of the slices.
-fn check_lengths(p: Parameters, key: &[u8], masks: &[u8], errors: &[u8], block: &[u8]) -> u32
-    requires { Sized p }
-    ensures { result ≡ Inner.lengths p key.now masks.now errors.now block.now }
+fn check_lengths(lent: &Lent, block: &[u8], p: Bounded) -> Checked
+    ensures { result ≡ Inner.lengths p.set
+        lent.now.key.now lent.now.masks.now lent.now.errors.now block.now }
 {
-    let own = p.k * p.N;
-    let rows = (p.k + 1) * p.L as usize;
-    let written = answers::first(
-        answers::exact(errors.len(), (rows * p.N) as u64),
-        answers::exact(block.len(), trgsw::block_size(p) as u64),
-    );
-    let lent = answers::first(answers::exact(masks.len(), (rows * own) as u64), written);
-    answers::first(answers::exact(key.len(), own as u64), lent)
+    let own = p.key_size();
+    let rows = p.row_count();
+    let whole = p.block_size() as u64;
+    answers::exact(lent.key.len(), own as u64)?;
+    answers::exact(lent.masks.len(), (rows * own) as u64)?;
+    answers::exact(lent.errors.len(), (rows * p.set.N) as u64)?;
+    answers::exact(block.len(), whole)
 }
 
 // What encrypt_selector answers.
-pub fn encrypt_selector_answer(
-    x: Scheme,
-    bit: u64,
-    key: &[u8],
-    masks: &[u8],
-    errors: &[u8],
-    block: &[u8],
-) -> Answer
-    ensures { result ≡ Calls.encrypt_selector (record {
-      scheme = x;
-      bit = bit;
-      key = key.now;
-      masks = masks.now;
-      errors = errors.now;
-      block = block.now;
-    }) }
+#[tactic(auto, unfolding(crate::specs::Calls::encrypt_selector))]
+pub fn encrypt_selector_answer(lent: &Lent, block: &[u8]) -> Answer
+    ensures { result ≡ Calls.encrypt_selector (Calls.selector_of lent.now block.now) }
 {
-    let unlawful = trgsw::refusal(x);
-    if unlawful != 0 {
-        return Answer::Refused(unlawful);
-    }
-    let lengths = check_lengths(trgsw::parameter_set(x), key, masks, errors, block);
-    if lengths != 0 {
-        return Answer::Refused(lengths);
-    }
-    let lawful_bit = answers::bit(bit);
-    let lawful_key = answers::key(key);
-    let contents = answers::first(lawful_bit, lawful_key);
-    if contents != 0 {
-        return Answer::Refused(contents);
-    }
-    let bound = answers::greatest_magnitude(errors, errors.len() / 4) as u64;
-    Answer::Accepted(Ledger { bound, gates: 0 })
+    check_lengths(lent, block, lent.scheme.bounded()?)?;
+    answers::bit(lent.bit)?;
+    answers::key(lent.key)?;
+    let bound = answers::greatest_magnitude(lent.errors) as u64;
+    Ok(Ledger { bound, gates: 0 })
 }
 
-// Encrypts a selector bit under the key, with masks and errors that the caller chose. Answers its number.
-pub fn encrypt_selector(
-    x: Scheme,
-    bit: u64,
-    key: &[u8],
-    masks: &[u8],
-    errors: &[u8],
-    block: &mut [u8],
-) -> u32
-    ensures { (let c : Calls.SelectorInput = record {
-      scheme = x;
-      bit = bit;
-      key = key.now;
-      masks = masks.now;
-      errors = errors.now;
-      block = block.old;
-    } in
-        (result ≡ number (Calls.encrypt_selector c)) × (block.new ≡ Calls.encrypt_selector_block c)) }
+// Encrypts a selector bit under the key, with masks and errors that the caller chose.
+#[tactic(auto, unfolding(crate::specs::Calls::encrypt_selector_block, answers::specs::Answers::after))]
+pub fn encrypt_selector(lent: &Lent, block: &mut [u8]) -> Answer
+    ensures { (result ≡ Calls.encrypt_selector (Calls.selector_of lent.now block.old))
+        × (block.new ≡ Calls.encrypt_selector_block (Calls.selector_of lent.now block.old)) }
 {
-    let fault = encrypt_selector_answer(x, bit, key, masks, errors, block).number();
-    if fault != 0 {
-        return fault;
-    }
-    encrypt(
-        block,
-        key,
-        masks,
-        errors,
-        trgsw::parameter_set(x),
-        bit as u32,
-    );
-    0
+    let ledger = encrypt_selector_answer(lent, block)?;
+    encrypt(block, lent, lent.scheme.parameter_set());
+    Ok(ledger)
 }

@@ -4,7 +4,7 @@
 -- Assumes nothing.
 use Rattle.std.specs.Prelude.{ℕ, ◌+◌, ◌-◌, ◌*◌, ◌^◌, ◌≤◌, min}
 use Rattle.ring.specs.Polynomial.{log}
-use Rattle.answers.specs.Checks.{ClassNumber}
+use Rattle.answers.specs.Checks.{Checked, ◌or_else◌, ClassNumber}
 use Rattle.answers.specs.Checks as Check
 use Rattle.trgsw.specs.Parameters.{LawfulScheme, scheme_refusal, parameters, sample_size}
 use Rattle.tables.specs.declared.Packing.{Packing}
@@ -87,8 +87,8 @@ pub record LawfulNumbers (x : Numbers) : Type 0 where
   pub most : x.s ≤ most_classes x.packing x.scheme.N
   pub depth : x.d ≤ most_selectors x.packing
 
--- The same as a check: the first of these refusals that applies, or 0.
-abbrev pub numbers : Numbers → ℕ
+-- The same as a check: the first of these refusals that applies.
+abbrev pub numbers : Numbers → Checked
 numbers x =
-    Check.first (scheme_refusal x.scheme) (Check.first (Check.class_number x.M)
-    (Check.first (Check.count (most_classes x.packing x.scheme.N) x.s) (Check.depth (most_selectors x.packing) x.d)))
+    scheme_refusal x.scheme or_else Check.class_number x.M
+    or_else Check.count (most_classes x.packing x.scheme.N) x.s or_else Check.depth (most_selectors x.packing) x.d

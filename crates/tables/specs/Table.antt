@@ -3,6 +3,7 @@
 use Rattle.std.specs.Prelude.{List, ℕ, ◌/◌, ◌%◌, ◌^◌, get_or}
 use Rattle.torus.specs.Sum.{chunk}
 use Rattle.ring.specs.Polynomial.{rotated}
+use Rattle.answers.specs.Checks.{Checked, passed}
 use Rattle.answers.specs.Checks as Check
 use Rattle.trlwe.specs.Classes.{message}
 use Rattle.trlwe.specs.Sample.{trivial}
@@ -54,6 +55,6 @@ abbrev pub named_message : (x : Numbers) (h : ℕ) (classes : List ℕ) (i : ℕ
 named_message x h classes i = rotated x.scheme.N (h % 2 ^ rotations x) (table_message x (h / 2 ^ rotations x) classes) i
 
 -- 7, of a table's classes: "refusal 7 isn't checked for" hidden entries.
-abbrev pub classes_of : (visibility : Visibility) (M : ℕ) (table : List ℕ) → ℕ
+abbrev pub classes_of : (visibility : Visibility) (M : ℕ) (table : List ℕ) → Checked
 classes_of Public M table = Check.classes M table
-classes_of Hidden M table = 0
+classes_of Hidden M table = passed

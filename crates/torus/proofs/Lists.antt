@@ -127,6 +127,10 @@ filled_all n f l e =
     let size : length (filled n f l) ≤ n = omega (arith, length_filled n f l) in
     sym (take_all n (filled n f l) size) ∙ filled_front n f l (omega arith)
 
+-- The same of a loop that ended after k turns.
+pub filled_done : (n k : ℕ) (f : ℕ → ℕ) (l out : List ℕ) → out ≡ filled k f l → k ≡ n → length l ≡ n → out ≡ tabulate n f
+filled_done n k f l out e done size = e ∙ rw done (filled_all n f l size)
+
 -- All turns are done, and b is stored in the one place that is left.
 pub filled_last : (n : ℕ) (f : ℕ → ℕ) (l : List ℕ) (b : ℕ) → length l ≡ n + 1 → set (filled n f l) n b ≡ tabulate n f ++ b ∷ []
 filled_last n f l b e =

@@ -194,6 +194,17 @@ bytes_zero (suc n) =
     let four : 4 * suc n ≡ suc (suc (suc (suc (4 * n)))) = omega arith in
     rw (bytes_zero n, four)
 
+-- Bytes that are 0 are words that are 0.
+pub words_zero : (n : ℕ) → words (replicate n 0) ≡ replicate (n / 4) 0
+unfolding words
+words_zero zero = refl
+words_zero (suc zero) = refl
+words_zero (suc (suc zero)) = refl
+words_zero (suc (suc (suc zero))) = refl
+words_zero (suc (suc (suc (suc n)))) =
+    let four : suc (suc (suc (suc n))) / 4 ≡ suc (n / 4) = omega arith in
+    rw (words_zero n, four)
+
 -- Bytes of words are bytes.
 pub bytes_are : (ws : List ℕ) → AreBytes (bytes ws)
 unfolding bytes

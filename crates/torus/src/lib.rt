@@ -1,7 +1,7 @@
 // Words of the discrete torus, and words in lent byte slices.
 #![tactic(auto)]
 
-ghost use Rattle.std.specs.Prelude.{◌≡◌, ◌+◌, ◌*◌, ◌<◌, ◌≤◌, length, replicate, slice_index, slice_set};
+ghost use Rattle.std.specs.Prelude.{◌≡◌, ◌+◌, ◌*◌, ◌/◌, ◌≤◌, length, replicate, slice_index, slice_set};
 ghost use Rattle.torus.specs.Sum.{tabulate};
 ghost use Rattle.torus.specs.Word as W;
 ghost use Rattle.torus.specs.Bytes.{words};
@@ -10,14 +10,14 @@ ghost use Rattle.torus.specs.Bytes.{words};
 pub fn add(a: u32, b: u32) -> u32
     ensures { result ≡ W.add a b }
 {
-    std::num::wrapping_add_u32(a, b)
+    a.wrapping_add(b)
 }
 
 // The difference of two words.
 pub fn sub(a: u32, b: u32) -> u32
     ensures { result ≡ W.sub a b }
 {
-    std::num::wrapping_sub_u32(a, b)
+    a.wrapping_sub(b)
 }
 
 // The product of two words: the whole product fits 64 bits.
@@ -41,23 +41,12 @@ pub fn distance(a: u32, b: u32) -> u32
     magnitude(sub(a, b))
 }
 
-// A byte as a word. A function of its own, so that the bound on a byte is stated once.
-fn wide(b: u8) -> u32
-    ensures { (result ≡ b) × (result < 256) }
-{
-    b as u32
-}
-
 // Word i of a lent slice.
 pub fn word_at(s: &[u8], i: usize) -> u32
     requires { 4 * i + 4 ≤ length s.now }
     ensures { result ≡ slice_index (words s.now) i }
 {
-    let a = wide(s[4 * i]);
-    let b = wide(s[4 * i + 1]);
-    let c = wide(s[4 * i + 2]);
-    let d = wide(s[4 * i + 3]);
-    a + 256 * b + 65536 * c + 16777216 * d
+    u32::from_le_bytes([s[4 * i], s[4 * i + 1], s[4 * i + 2], s[4 * i + 3]])
 }
 
 // Word i of a lent slice becomes w.
@@ -65,46 +54,28 @@ pub fn put_word(s: &mut [u8], i: usize, w: u32)
     requires { 4 * i + 4 ≤ length s.old }
     ensures { words s.new ≡ slice_set (words s.old) i w }
 {
-    s[4 * i] = (w % 256) as u8;
-    s[4 * i + 1] = (w / 256 % 256) as u8;
-    s[4 * i + 2] = (w / 65536 % 256) as u8;
-    s[4 * i + 3] = (w / 16777216) as u8;
+    let [a, b, c, d] = w.to_le_bytes();
+    s[4 * i] = a;
+    s[4 * i + 1] = b;
+    s[4 * i + 2] = c;
+    s[4 * i + 3] = d;
 }
 
-// The n words of out become those of a.
-pub fn copy_words(out: &mut [u8], a: &[u8], n: usize)
-    requires { (length out.old ≡ 4 * n) × (length a.now ≡ 4 * n) }
-    ensures { words out.new ≡ words a.now }
+// The words of out become 0.
+pub fn clear_words(out: &mut [u8])
+    ensures { words out.new ≡ replicate (length out.old / 4) 0 }
 {
-    let mut i = 0;
-    while i < n {
-        put_word(out, i, word_at(a, i));
-        i += 1;
-    }
+    out.fill(0);
 }
 
-// The n words of out become 0.
-pub fn clear_words(out: &mut [u8], n: usize)
-    requires { length out.old ≡ 4 * n }
-    ensures { words out.new ≡ replicate n 0 }
+// From each word of out, the word of a is taken away.
+pub fn sub_words(out: &mut [u8], a: &[u8])
+    requires { length a.now ≡ length out.old }
+    ensures { words out.new ≡ tabulate (length out.old / 4)
+        (λ i. W.sub (slice_index (words out.old) i) (slice_index (words a.now) i)) }
 {
-    let mut i = 0;
-    while i < n {
-        put_word(out, i, 0);
-        i += 1;
-    }
-}
-
-// From each of the n words of out, the word of a is taken away.
-pub fn sub_words(out: &mut [u8], a: &[u8], n: usize)
-    requires { (length out.old ≡ 4 * n) × (length a.now ≡ 4 * n) }
-    ensures { words out.new
-        ≡ tabulate n (λ i. W.sub (slice_index (words out.old) i) (slice_index (words a.now) i)) }
-{
-    let mut i = 0;
-    while i < n {
+    for i in 0..out.len() / 4 {
         let w = word_at(out, i);
         put_word(out, i, sub(w, word_at(a, i)));
-        i += 1;
     }
 }

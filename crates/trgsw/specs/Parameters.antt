@@ -4,6 +4,7 @@
 use Rattle.std.specs.Prelude.{List, ℕ, suc, ◌*◌, ◌≤◌}
 use Rattle.gadget.specs.Digits.{Lawful}
 use Rattle.ring.specs.Polynomial.{Degree}
+use Rattle.answers.specs.Checks.{Checked, ◌or_else◌}
 use Rattle.answers.specs.Checks as Check
 use Rattle.row_terms.specs.Rows as Rows
 use Rattle.trlwe.specs.Sample.{Key}
@@ -41,9 +42,9 @@ pub record LawfulScheme (x : Scheme) : Type 0 where
   pub degree : Degree x.N
   pub gadget : Lawful x.g x.L
 
--- The same as a check: the first of these refusals that applies, or 0.
-abbrev pub scheme_refusal : Scheme → ℕ
-scheme_refusal x = Check.first (Check.degree x.N) (Check.gadget x.g x.L)
+-- The same as a check: the first of these refusals that applies.
+abbrev pub scheme_refusal : Scheme → Checked
+scheme_refusal x = Check.degree x.N or_else Check.gadget x.g x.L
 
 -- ---- sizes, in words
 

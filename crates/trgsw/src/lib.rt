@@ -2,9 +2,13 @@
 // calls are told less of a parameter set, and what they are not told is shut here.
 #![tactic(auto)]
 
-ghost use Rattle.std.specs.Prelude.{◌≡◌, ◌^◌, ◌≤◌};
-ghost use Rattle.trgsw.specs.Parameters.{scheme_of, Sized, LawfulScheme, scheme_refusal, parameters, sample_size, block_size};
+ghost use Rattle.std.specs.Prelude.{◌≡◌, Err, MatchResult, ◌^◌, ◌≤◌};
+ghost use Rattle.answers.specs.Checks.{passed};
+ghost use Rattle.trgsw.specs.Parameters.{scheme_of, Sized, LawfulScheme, scheme_refusal, parameters, key_size, sample_size, row_count, block_size};
 ghost use Rattle.trgsw.specs.External as External;
+
+use answers::{Checked, Refusal};
+use gadget::Gadget;
 
 // A parameter set: degree N, k masks, a gadget of L digits in base 2^g, and keys of up to W ones.
 #[derive(Clone, Copy)]
@@ -16,6 +20,13 @@ pub struct Parameters {
     pub W: u64,
 }
 
+// A parameter set within the code's limits, so that 64 bits hold its sizes and charges.
+#[derive(Clone, Copy)]
+pub struct Bounded {
+    pub set: Parameters,
+    pub ghost sized: { Sized set },
+}
+
 // What a call is told of its parameter set, whatever the numbers are: degree N, and a gadget of L digits in base 2^g.
 #[derive(Clone, Copy)]
 pub struct Scheme {
@@ -24,65 +35,94 @@ pub struct Scheme {
     pub L: u64,
 }
 
-// What a call is told with N, g and L.
-pub fn scheme_of(n: u64, g: u64, l: u64) -> Scheme
-    ensures { result ≡ scheme_of n g l }
-{
-    Scheme { N: n, g, L: l }
-}
-
 // The most masks of a call. Rooms for samples are made for them.
 pub const MOST_MASKS: usize = 1;
 
 // The words of the largest sample of a call.
 pub const LARGEST_SAMPLE: usize = (MOST_MASKS + 1) * 1024;
 
-// 1 and 2: the number of the first refusal of a call's parameter set, or 0.
-pub fn refusal(x: Scheme) -> u32
-    ensures { result ≡ scheme_refusal x }
-{
-    answers::first(answers::degree(x.N), answers::gadget(x.g, x.L))
-}
+impl Scheme {
+    // What a call is told with N, g and L.
+    pub fn new(n: u64, g: u64, l: u64) -> Scheme
+        ensures { result ≡ scheme_of n g l }
+    {
+        Scheme { N: n, g, L: l }
+    }
 
-// The parameter set that a call is told: one mask, and keys of up to N ones.
-pub fn parameter_set(x: Scheme) -> Parameters
-    requires { LawfulScheme x }
-    ensures { result ≡ parameters x }
-{
-    let degree = x.N as usize;
-    let bits = x.g as u32;
-    let digits = x.L as u32;
-    Parameters {
-        N: degree,
-        k: 1,
-        g: bits,
-        L: digits,
-        W: x.N,
+    // 1 and 2: what a call is told of its parameter set.
+    pub fn check(self) -> Checked
+        ensures { result ≡ scheme_refusal self }
+    {
+        answers::degree(self.N)?;
+        answers::gadget(self.g, self.L)
+    }
+
+    // The parameter set that a call is told: one mask, and keys of up to N ones.
+    pub fn parameter_set(self) -> Parameters
+        requires { LawfulScheme self }
+        ensures { result ≡ parameters self }
+    {
+        let degree = self.N as usize;
+        let bits = self.g as u32;
+        let digits = self.L as u32;
+        Parameters {
+            N: degree,
+            k: 1,
+            g: bits,
+            L: digits,
+            W: self.N,
+        }
+    }
+
+    // It, where what is told passes refusals 1 and 2.
+    pub fn bounded(self) -> Result<Bounded, Refusal>
+        ensures { MatchResult result
+            (λ p. (scheme_refusal self ≡ passed) × (p.set ≡ parameters self))
+            (λ refusal. scheme_refusal self ≡ Err refusal) }
+    {
+        self.check()?;
+        let set = self.parameter_set();
+        Ok(Bounded { set })
     }
 }
 
-// The words of a sample.
-pub fn sample_size(p: Parameters) -> usize
-    requires { Sized p }
-    ensures { (result ≡ sample_size p) × (result ≤ 5120) }
-{
-    (p.k + 1) * p.N
-}
+impl Bounded {
+    // The words of a key.
+    pub fn key_size(self) -> usize
+        ensures { (result ≡ key_size self.set) × (result ≤ 4096) }
+    {
+        self.set.k * self.set.N
+    }
 
-// The words of a block: as many samples as it has rows.
-pub fn block_size(p: Parameters) -> usize
-    requires { Sized p }
-    ensures { (result ≡ block_size p) × (result ≤ 819200) }
-{
-    (p.k + 1) * p.L as usize * sample_size(p)
-}
+    // The words of a sample.
+    pub fn sample_size(self) -> usize
+        ensures { (result ≡ sample_size self.set) × (result ≤ 5120) }
+    {
+        (self.set.k + 1) * self.set.N
+    }
 
-// A CMux's charge: what it adds to the noise, with a block within a.
-pub fn charge(p: Parameters, a: u64) -> u64
-    requires { Sized p × (a ≤ 2 ^ 31) }
-    ensures { result ≡ External.charge p a }
-{
-    let rows = (p.k as u64 + 1) * p.L as u64;
-    rows * p.N as u64 * gadget::half(p.g) as u64 * a
-        + (1 + p.W) * gadget::precision(p.g, p.L) as u64
+    // The rows of a block.
+    pub fn row_count(self) -> usize
+        ensures { (result ≡ row_count self.set) × (result ≤ 160) }
+    {
+        (self.set.k + 1) * self.set.L as usize
+    }
+
+    // The words of a block: as many samples as it has rows.
+    pub fn block_size(self) -> usize
+        ensures { (result ≡ block_size self.set) × (result ≤ 819200) }
+    {
+        self.row_count() * self.sample_size()
+    }
+
+    // A CMux's charge: what it adds to the noise, with a block within a.
+    pub fn charge(self, a: u64) -> u64
+        requires { a ≤ 2 ^ 31 }
+        ensures { result ≡ External.charge self.set a }
+    {
+        let p = self.set;
+        let gadget = Gadget { g: p.g, l: p.L };
+        self.row_count() as u64 * p.N as u64 * gadget::half(p.g) as u64 * a
+            + (1 + p.W) * gadget.precision() as u64
+    }
 }

@@ -84,13 +84,13 @@ message_added N M s o classes len le word =
         filled_later s _ o i l ∙ sym (ap (add (get_or o i 0)) (message_unused M s classes i l) ∙ ap (λ x. x % 2 ^ 32) (add-zero (get_or o i 0)) ∙ mod-eq_of_lt (word i))
 
 -- With a·K made in a room that was all 0, the body less the room's words is the phase.
-pub room_made : (N k M s : ℕ) (K sample room room' classes : List ℕ) → s ≤ N → room ≡ replicate N 0 → Added N K sample k room room'
+pub room_made : (N n k M s : ℕ) (K sample room room' classes : List ℕ) → s ≤ N → n ≡ N → room ≡ replicate n 0 → Added N K sample k room room'
     → classes ≡ tabulate s (λ i. decode M (sub (get_or sample (k * N + i) 0) (get_or room' i 0))) → classes ≡ decrypted N k M s K sample
 unfolding decrypted phase masked
-room_made N k M s K sample room room' classes le cleared h e =
+room_made N n k M s K sample room room' classes le size cleared h e =
     e ∙ tabulate_cong s _ _ (λ i l.
     let li : i < N = omega arith in
-    let zero_at : get_or room i 0 ≡ 0 = ap (λ ws. get_or ws i 0) cleared ∙ get_or-replicate N i 0 0 li in
+    let zero_at : get_or room i 0 ≡ 0 = ap (λ ws. get_or ws i 0) cleared ∙ get_or-replicate n i 0 0 (omega arith) in
     ap (λ x. decode M (sub (get_or sample (k * N + i) 0) x))
     (ap (λ ws. get_or ws i 0) h ∙ tabulate_at N _ i li ∙ ap (λ x. add x (masked N k K sample i)) zero_at
     ∙ omega (arith, mod-mod (sum k (λ c. product N (part N K c) (part N sample c) i)) (2 ^ 32))))

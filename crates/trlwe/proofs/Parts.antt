@@ -32,18 +32,19 @@ module _ (N n p q : ℕ) (s a B : List ℕ) (made : words s ≡ a ++ B) (la : le
       ∙ append-nil (words ys))
 
 -- A message f is added to a body b.
-added : (N : ℕ) (B ys : List ℕ) (b f g : ℕ → ℕ) → B ≡ tabulate N b → ((i : ℕ) → add (b i) (f i) ≡ g i)
-    → ys ≡ tabulate N (λ i. add (get_or B i 0) (f i)) → ys ≡ tabulate N g
-added N B ys b f g e_b sum h =
-    h ∙ tabulate_cong N _ _ (λ i l. ap (λ x. add x (f i)) (ap (λ ws. get_or ws i 0) e_b ∙ tabulate_at N b i l) ∙ sum i)
+added : (N n : ℕ) (B ys : List ℕ) (b f g : ℕ → ℕ) → B ≡ tabulate N b → ((i : ℕ) → add (b i) (f i) ≡ g i)
+    → n ≡ N → ys ≡ tabulate n (λ i. add (get_or B i 0) (f i)) → ys ≡ tabulate N g
+added N n B ys b f g e_b sum e h =
+    h ∙ ap (λ n. tabulate n (λ i. add (get_or B i 0) (f i))) e
+    ∙ tabulate_cong N _ _ (λ i l. ap (λ x. add x (f i)) (ap (λ ws. get_or ws i 0) e_b ∙ tabulate_at N b i l) ∙ sum i)
 
 -- To the body of an encryption of 0: it becomes an encryption of the message.
-pub message_made : (N k : ℕ) (K a e B ys : List ℕ) (f : ℕ → ℕ) → B ≡ tabulate N (body N k K a e (λ i. 0))
-    → ys ≡ tabulate N (λ i. add (get_or B i 0) (f i)) → ys ≡ tabulate N (body N k K a e f)
+pub message_made : (N k n : ℕ) (K a e B ys : List ℕ) (f : ℕ → ℕ) → B ≡ tabulate N (body N k K a e (λ i. 0))
+    → n ≡ N → ys ≡ tabulate n (λ i. add (get_or B i 0) (f i)) → ys ≡ tabulate N (body N k K a e f)
 unfolding body
-message_made N k K a e B ys f e_b = added N B ys _ f _ e_b (λ i. omega arith)
+message_made N k n K a e B ys f e_b = added N n B ys _ f _ e_b (λ i. omega arith)
 
 -- To a body that is 0: it becomes the message.
-pub trivial_made : (N : ℕ) (B ys : List ℕ) (f : ℕ → ℕ) → B ≡ replicate N 0 → ((i : ℕ) → f i < 2 ^ 32)
-    → ys ≡ tabulate N (λ i. add (get_or B i 0) (f i)) → ys ≡ tabulate N f
-trivial_made N B ys f e_b word = added N B ys (λ i. 0) f f (e_b ∙ sym (tabulate_const N 0)) (λ i. let below : f i < 2 ^ 32 = word i in omega arith)
+pub trivial_made : (N n : ℕ) (B ys : List ℕ) (f : ℕ → ℕ) → B ≡ replicate N 0 → ((i : ℕ) → f i < 2 ^ 32)
+    → n ≡ N → ys ≡ tabulate n (λ i. add (get_or B i 0) (f i)) → ys ≡ tabulate N f
+trivial_made N n B ys f e_b word = added N n B ys (λ i. 0) f f (e_b ∙ sym (tabulate_const N 0)) (λ i. let below : f i < 2 ^ 32 = word i in omega arith)

@@ -4,8 +4,8 @@
 use Rattle.std.specs.Prelude.{List, ℕ, ◌*◌, length}
 use Rattle.torus.specs.Bytes.{words, bytes}
 use Rattle.answers.specs.Checks as Check
-use Rattle.answers.specs.Answers.{◌or_else◌, accepted, noise, greatest_magnitude, after}
-use Rattle.answers.specs.declared.Answer.{Answer}
+use Rattle.answers.specs.Checks.{◌or_else◌}
+use Rattle.answers.specs.Answers.{Answer, accepted, noise, greatest_magnitude, after}
 use Rattle.trlwe.specs.Classes.{message}
 use Rattle.trlwe.specs.Sample.{encryption, decrypted}
 

@@ -4,9 +4,14 @@
 
 mod tables;
 
-ghost use Rattle.std.specs.Prelude.{◌≡◌, length};
+ghost use Rattle.std.specs.Prelude.{◌≡◌, ◌*◌, ◌^◌, ◌≤◌, get_or};
+ghost use Rattle.butterflies.specs.Same.{Same};
 ghost use Rattle.twiddles.specs.Primes as Primes;
 ghost use Rattle.twiddles.specs.Tables as Tables;
+
+use butterflies::Factor;
+use ntt::Plan;
+pub use tables::Lists;
 
 // The two primes, as in specs/Primes.antt.
 pub const P1: u32 = 1073707009;
@@ -30,72 +35,44 @@ pub fn modulus(prime: Prime) -> u32
     }
 }
 
-// The roots.
-fn roots(prime: Prime) -> [u32; 1024]
-    ensures { result ≡ Tables.roots_of prime }
+// Its tables.
+pub fn lists(prime: Prime) -> &'static Lists
+    ensures { (result.now.roots ≡ Tables.roots_of prime) × (result.now.quotients ≡ Tables.quotients_of prime)
+        × (result.now.scales ≡ Tables.scales_of prime) × (result.now.scale_quotients ≡ Tables.scale_quotients_of prime) }
 {
     match prime {
-        Prime::First => tables::T1,
-        Prime::Second => tables::T2,
+        Prime::First => &tables::FIRST,
+        Prime::Second => &tables::SECOND,
     }
 }
 
-// Their quotients, for Shoup's product.
-fn quotients(prime: Prime) -> [u32; 1024]
-    ensures { result ≡ Tables.quotients_of prime }
+// The roots of transforms of 2^n coefficients, and their quotients.
+pub fn plan(prime: Prime, n: usize) -> Plan<'static>
+    requires { n ≤ 10 }
+    ensures { (result.tables.p ≡ Primes.modulus prime) × (result.tables.n ≡ n) × (result.tables.roots.now ≡ Tables.roots_of prime)
+        × (result.tables.quotients.now ≡ Tables.quotients_of prime) × (4294967296 ≤ 6 * result.tables.p) }
 {
-    match prime {
-        Prime::First => tables::Q1,
-        Prime::Second => tables::Q2,
+    let lists = lists(prime);
+    Plan {
+        tables: ntt::Tables {
+            p: modulus(prime),
+            n,
+            roots: &lists.roots,
+            quotients: &lists.quotients,
+        },
     }
 }
 
-// The elements of a table, to out.
-fn copy(out: &mut [u32], table: &[u32])
-    requires { length out.old ≡ length table.now }
-    ensures { out.new ≡ table.now }
+// The inverse of 2^n.
+pub fn scale(prime: Prime, n: usize) -> Factor
+    requires { n ≤ 10 }
+    ensures { (result.p ≡ Primes.modulus prime) × (result.w ≡ get_or (Tables.scales_of prime) n 0)
+        × (result.v ≡ get_or (Tables.scale_quotients_of prime) n 0) × Same result.p (2 ^ n * result.w) 1 }
 {
-    let mut i: usize = 0;
-    while i < out.len() {
-        out[i] = table[i];
-        i += 1;
-    }
-}
-
-// The roots, to a lent slice: who lends it has one copy of the table, and none of the compiler's.
-pub fn write_roots(out: &mut [u32], prime: Prime)
-    requires { length out.old ≡ 1024 }
-    ensures { out.new ≡ Tables.roots_of prime }
-{
-    let table = roots(prime);
-    copy(out, &table);
-}
-
-// Their quotients.
-pub fn write_quotients(out: &mut [u32], prime: Prime)
-    requires { length out.old ≡ 1024 }
-    ensures { out.new ≡ Tables.quotients_of prime }
-{
-    let table = quotients(prime);
-    copy(out, &table);
-}
-
-// The inverses of 1, 2, 4 to 1,024.
-pub fn scales(prime: Prime) -> [u32; 11]
-    ensures { result ≡ Tables.scales_of prime }
-{
-    match prime {
-        Prime::First => tables::W1,
-        Prime::Second => tables::W2,
-    }
-}
-
-// Their quotients.
-pub fn scale_quotients(prime: Prime) -> [u32; 11]
-    ensures { result ≡ Tables.scale_quotients_of prime }
-{
-    match prime {
-        Prime::First => tables::V1,
-        Prime::Second => tables::V2,
+    let lists = lists(prime);
+    Factor {
+        w: lists.scales[n],
+        v: lists.scale_quotients[n],
+        p: modulus(prime),
     }
 }

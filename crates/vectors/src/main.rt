@@ -2,7 +2,10 @@
 // input and, by an implementation of its own, the output.
 #![tactic(auto)]
 
-ghost use Rattle.std.specs.Prelude.{◌≡◌, ◌*◌, ◌^◌, ◌≤◌, length};
+ghost use Rattle.std.specs.Prelude.{◌≡◌, ◌-◌, ◌^◌, ◌≤◌, length};
+ghost use Rattle.std.specs.Iterator.{IsFinite, UpTo};
+
+use gadget::Gadget;
 
 // Word i of the input, or 0 past its end.
 fn input_word(input: &[u8], i: usize) -> u32 {
@@ -13,10 +16,11 @@ fn input_word(input: &[u8], i: usize) -> u32 {
     }
 }
 
-fn wide(w: u32) -> u64
-    ensures { result ≡ w }
+// The N words of the input from word `at` on.
+fn input_words<const N: usize>(input: &[u8], at: usize) -> [u32; N]
+    requires { at ≤ 2 ^ 62 }
 {
-    w as u64
+    std::array::from_fn(|i| input_word(input, at + i))
 }
 
 // The word, with a blank before it where it is not the first of its line.
@@ -24,27 +28,16 @@ fn print_word(place: usize, w: u32) {
     if 0 < place {
         io::write_all(1, b" ");
     }
-    io::print_decimal(1, wide(w));
+    io::print_decimal(1, u64::from(w));
 }
 
-fn print_digits(digits: &[u32], l: usize)
-    requires { l ≤ length digits.now }
+// A line of words.
+fn print_line<Words: Iterator<Item = u32>>(words: Words)
+    requires can_next { Words.Iterator.can_next words × IsFinite (Words.Iterator.remaining words) }
+    requires up_to { UpTo (Words.Iterator.remaining words) (2 ^ 64 - 1) }
 {
-    let mut i = 0;
-    while i < l {
-        print_word(i, digits[i]);
-        i += 1;
-    }
-    io::write_all(1, b"\n");
-}
-
-fn print_polynomial(words: &[u8], n: usize)
-    requires { length words.now ≡ 4 * n }
-{
-    let mut i = 0;
-    while i < n {
-        print_word(i, torus::word_at(words, i));
-        i += 1;
+    for (place, w) in words.enumerate() {
+        print_word(place, w);
     }
     io::write_all(1, b"\n");
 }
@@ -53,12 +46,10 @@ fn print_polynomial(words: &[u8], n: usize)
 fn run_digits(input: &[u8], at: usize)
     requires { at ≤ 2 ^ 62 }
 {
-    let g = input_word(input, at);
-    let l = input_word(input, at + 1);
-    let w = input_word(input, at + 2);
-    if gadget::lawful(wide(g), wide(l)) {
-        let digits = gadget::decompose(w, g, l);
-        print_digits(&digits, l as usize);
+    let [g, l, w] = input_words::<3>(input, at);
+    if gadget::lawful(u64::from(g), u64::from(l)) {
+        let digits = Gadget { g, l }.decompose(w);
+        print_line(digits[..l as usize].iter().copied());
     }
 }
 
@@ -67,32 +58,28 @@ fn run_all_digits(input: &[u8]) -> usize
     ensures { result ≤ 2 ^ 40 }
 {
     let count = input_word(input, 0) as usize;
-    let mut r = 0;
-    while r < count {
+    for r in 0..count {
         run_digits(input, 1 + 3 * r);
-        r += 1;
     }
     1 + 3 * count
 }
 
-// out becomes start plus digit polynomial j of x times row, and is printed. All slices are polynomials of degree n.
+// out becomes start plus digit polynomial j of x times row, and is printed. The numbers are N, g, L and j; all slices are polynomials
+// of degree N.
 fn run_product(
     digits: &mut [u8],
     out: &mut [u8],
     x: &[u8],
     row: &[u8],
     start: &[u8],
-    n: u32,
-    g: u32,
-    l: u32,
-    j: u32,
+    numbers: [u32; 4],
 )
-    requires { (length out.old ≡ 4 * n) × (length start.now ≡ 4 * n) }
+    requires { length start.now ≡ length out.old }
 {
-    torus::copy_words(out, start, n as usize);
-    let answer = digit_row::add_digit_row(wide(n), wide(g), wide(l), wide(j), x, row, digits, out);
-    if answer == 0 {
-        print_polynomial(out, n as usize);
+    out.copy_from_slice(start);
+    let [n, g, l, j] = numbers.map(u64::from);
+    if digit_row::add_digit_row(n, g, l, j, x, row, digits, out) == 0 {
+        print_line((0..out.len() / 4).map(|i| torus::word_at(out, i)));
     }
 }
 
@@ -103,12 +90,13 @@ fn run_record(input: &[u8], at: usize) -> usize
     ensures { result ≤ 2 ^ 62 }
 {
     let end = input.len() / 4;
-    let n = input_word(input, at);
+    let numbers = input_words::<4>(input, at);
+    let n = numbers[0] as usize;
     if 1024 < n {
         return end;
     }
-    let size = 4 * (n as usize);
-    let next = at + 4 + 3 * (n as usize);
+    let size = 4 * n;
+    let next = at + 4 + 3 * n;
     if end < next {
         return end;
     }
@@ -124,10 +112,7 @@ fn run_record(input: &[u8], at: usize) -> usize
         &input[x..row],
         &input[row..start],
         &input[start..stop],
-        n,
-        input_word(input, at + 1),
-        input_word(input, at + 2),
-        input_word(input, at + 3),
+        numbers,
     );
     next
 }
@@ -138,10 +123,8 @@ fn run_all_products(input: &[u8], at: usize)
 {
     let count = input_word(input, at);
     let mut from = at + 1;
-    let mut r = 0;
-    while r < count {
+    for _ in 0..count {
         from = run_record(input, from);
-        r += 1;
     }
 }
 

@@ -11,17 +11,17 @@ returns-then-limit-word_at c =
     let ws : List ℕ = words c.args.s.now in
     let within : c.loop-i.i < length ws = omega (arith, length_words c.args.s.now) in
     let high : c.args.limit ≤ get_or ws c.loop-i.i 0 = omega (arith, c.word_at.ensures) in
-    sym (c.loop-i.invariant.1 ∙ all_below_not c.args.limit ws c.loop-i.i within high)
+    sym (c.loop-i.invariant ∙ all_below_not c.args.limit ws c.loop-i.i within high)
 
 pub loop-i-preserved : goal.loop-i-preserved
 loop-i-preserved c =
     let ws : List ℕ = words c.args.s.now in
     let within : c.loop-i.i < length ws = omega (arith, length_words c.args.s.now) in
     let low : get_or ws c.loop-i.i 0 < c.args.limit = omega (arith, c.word_at.ensures) in
-    (omega arith, c.loop-i.invariant.1 ∙ all_below_on c.args.limit ws c.loop-i.i within low)
+    c.loop-i.invariant ∙ all_below_on c.args.limit ws c.loop-i.i within low
 
 pub returns : goal.returns
 returns c =
     let ws : List ℕ = words c.args.s.now in
     let over : length ws ≤ c.loop-i.i = omega (arith, length_words c.args.s.now) in
-    sym (c.loop-i.invariant.1 ∙ all_below_end c.args.limit ws c.loop-i.i over)
+    sym (c.loop-i.invariant ∙ all_below_end c.args.limit ws c.loop-i.i over)

@@ -1,6 +1,7 @@
--- `butterflies::fold` meets its contract: x - 2·p is the same as x. Assumes nothing.
+-- `butterflies::fold` meets its contract. Assumes nothing.
 use Rattle.std.proofs.Common.{arith}
+use Rattle.butterflies.proofs.FoldLaws.{folded}
 use Rattle.butterflies.proofs.fold.Goals as goal
 
-pub returns-then-m-x : goal.returns-then-m-x
-returns-then-m-x c = (omega arith, record { s = 2; t = 0; same = omega arith })
+pub returns : goal.returns
+returns c = folded c.args.p 2 _ _ _ (omega arith) (omega arith) (omega arith) (omega arith) c.min.ensures

@@ -1,10 +1,7 @@
 -- `butterflies::pass` meets its contract. The loop's invariant: the first j butterflies of the node are done. Assumes nothing.
-use Rattle.std.proofs.Common.{◌-◌, ◌*◌, ◌≤◌}
-use Rattle.butterflies.specs.Butterflies.{Below, Pass, down_low, down_high}
+use Rattle.butterflies.specs.Butterflies.{Below, Pass}
 use Rattle.butterflies.proofs.pass.Given as goal
 
 abbrev pub invariant-loop-j : goal.invariant-loop-j
-invariant-loop-j l = (l.j ≤ l.h) × Pass l.p (down_low l.w) (down_high l.p l.w) l.s l.h l.j l.fn.a l.a × Below (4 * l.p) l.a
-
-abbrev pub decreases-loop-j : goal.decreases-loop-j
-decreases-loop-j l = l.h - l.j
+invariant-loop-j g l = let f = l.factor in let way = g.W.Way in
+    Pass f.p (way.low f.w) (way.high f.p f.w) l.s l.h l.j l.fn.a l.a × Below (way.top f.p) l.a

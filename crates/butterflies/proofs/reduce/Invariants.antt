@@ -1,10 +1,6 @@
--- `butterflies::reduce` meets its contract. The loop's invariant: the first i elements are reduced. Assumes nothing.
-use Rattle.std.proofs.Common.{length, ◌-◌, ◌≤◌}
+-- `butterflies::reduce` meets its contract. The loop's invariant: the elements before x are reduced. Assumes nothing.
 use Rattle.butterflies.specs.Butterflies.{Stored, Reduced}
 use Rattle.butterflies.proofs.reduce.Given as goal
 
-abbrev pub invariant-loop-i : goal.invariant-loop-i
-invariant-loop-i l = (l.i ≤ length l.a) × Stored (Reduced l.p l.fn.a) l.i l.fn.a l.a
-
-abbrev pub decreases-loop-i : goal.decreases-loop-i
-decreases-loop-i l = length l.initial.a - l.i
+abbrev pub invariant-loop-x : goal.invariant-loop-x
+invariant-loop-x l = Stored (Reduced l.p l.fn.a) l.x-index l.fn.a l.a

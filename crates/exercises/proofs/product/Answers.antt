@@ -1,4 +1,4 @@
--- `exercises::product` meets what `add_product` requires: two words are a degree, and the words 0 and 1 of X are small. Assumes nothing.
+-- `exercises::product` makes a pair of factors: two words are a degree, and the words 0 and 1 of X are small. Assumes nothing.
 use Rattle.std.proofs.Common.{ℕ, zero, suc, ◌^◌, ◌≤◌, [], ◌∷◌, refl}
 use lib.Count.{ones}
 use lib.Dec.{lit≤}
@@ -14,11 +14,10 @@ small zero = lit≤ tt
 small (suc zero) = lit≤ tt
 small (suc (suc i)) = lit≤ tt
 
-pub add_product-requires : goal.add_product-requires
+pub invariant_of-pair : goal.invariant_of-pair
 unfolding ones words
-add_product-requires c = record {
+invariant_of-pair c = record {
   degree = record { power = refl; most = lit≤ tt };
-  out_length = refl;
   small_length = refl;
   row_length = refl;
   small_words = λ i h. small i;

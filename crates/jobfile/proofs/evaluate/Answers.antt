@@ -1,7 +1,8 @@
 -- `jobfile::evaluate` meets its contract. Assumes nothing.
-use Rattle.std.proofs.Common.{◌≡◌, ℕ, ◌+◌, ◌-◌, ◌*◌, ◌≤◌, List, length, take, drop, sym, ap, ◌∙◌, arith}
+use Rattle.std.proofs.Common.{◌≡◌, ℕ, ◌+◌, ◌*◌, ◌≤◌, List, length, take, drop, sym, ap, ◌∙◌, arith}
 use native.Mathlib.Nat.{mul-le-mul}
-use Rattle.torus.proofs.Parts.{front_length}
+use lib.Seq.{length-take-le}
+use Rattle.std.proofs.lemmas.Result.{err_from_is_err_and}
 use Rattle.trgsw.specs.Parameters.{sample_size, parameters}
 use Rattle.tables.specs.declared.Numbers.{Numbers}
 use Rattle.trgsw.proofs.Told.{sample_fits}
@@ -21,36 +22,56 @@ work_fits x ok =
     let kept : x.d + 1 ≤ deepest + 1 = omega (arith, depth_le x ok) in
     mul-le-mul (own_fits x ok) kept
 
--- What is lent has the lengths that the lookup asks.
-sample_length : (x : Numbers) (n : ℕ) (room : List ℕ) → LawfulNumbers x → n ≡ sample_size (parameters x.scheme) → SAMPLE_ROOM ≡ length room
-    → length (take (4 * n - 0) (drop 0 room)) ≡ 4 * sample_size (parameters x.scheme)
-sample_length x n room ok own e =
-    front_length (4 * n) room (omega (arith, own_fits x ok)) ∙ ap (λ (m : ℕ). 4 * m) own
+-- So what is lent is there, and has the lengths that the lookup asks.
+module _ (x : Numbers) (ok : LawfulNumbers x) (n : ℕ) (own : n ≡ sample_size (parameters x.scheme)) (room : List ℕ) where
+  sample_there : SAMPLE_ROOM ≡ length room → 4 * n ≤ length room
+  sample_there e = omega (arith, own_fits x ok)
 
-work_length : (x : Numbers) (n : ℕ) (room : List ℕ) → LawfulNumbers x → n ≡ sample_size (parameters x.scheme) → WORK_ROOM ≡ length room
-    → length (take (4 * n * (x.d + 1) - 0) (drop 0 room)) ≡ 4 * (sample_size (parameters x.scheme) * (x.d + 1))
-work_length x n room ok own e =
-    let same : n * (x.d + 1) ≡ sample_size (parameters x.scheme) * (x.d + 1) = ap (λ (m : ℕ). m * (x.d + 1)) own in
-    front_length (4 * n * (x.d + 1)) room (omega (arith, work_fits x ok)) ∙ omega arith
+  sample_length : SAMPLE_ROOM ≡ length room → length (take (4 * n) room) ≡ 4 * sample_size (parameters x.scheme)
+  sample_length e = length-take-le (4 * n) room (sample_there e) ∙ ap (λ (m : ℕ). 4 * m) own
+
+  work_there : WORK_ROOM ≡ length room → 4 * n * (x.d + 1) ≤ length room
+  work_there e =
+      let same : 4 * n * (x.d + 1) ≡ 4 * sample_size (parameters x.scheme) * (x.d + 1) = ap (λ (m : ℕ). 4 * m * (x.d + 1)) own in
+      omega (arith, work_fits x ok)
+
+  work_length : WORK_ROOM ≡ length room → length (take (4 * n * (x.d + 1)) room) ≡ 4 * (sample_size (parameters x.scheme) * (x.d + 1))
+  work_length e =
+      let same : n * (x.d + 1) ≡ sample_size (parameters x.scheme) * (x.d + 1) = ap (λ (m : ℕ). m * (x.d + 1)) own in
+      length-take-le (4 * n * (x.d + 1)) room (work_there e) ∙ omega arith
 
 pub slice_bounds-sample-end : goal.slice_bounds-sample-end
-slice_bounds-sample-end c = omega (arith, own_fits c.args.x c.requires, c.sample_size.ensures.0, c.sample_room-sample.ensures)
+slice_bounds-sample-end c =
+    sample_there c.args.x.numbers c.args.x.lawful _ c.sample_size.ensures.0 _ c.room-sample.ensures
 
-pub returns-then-number-ne0 : goal.returns-then-number-ne0
-returns-then-number-ne0 c =
+pub slice_bounds-lookup-end : goal.slice_bounds-lookup-end
+slice_bounds-lookup-end c =
+    sym (length-take-le _ _ (sample_there c.args.x.numbers c.args.x.lawful _ c.sample_size.ensures.0 _ c.room-sample.ensures))
+
+pub slice_bounds-work-end : goal.slice_bounds-work-end
+slice_bounds-work-end c =
+    work_there c.args.x.numbers c.args.x.lawful _ c.sample_size.ensures.0 _ c.room-work.ensures
+
+pub slice_bounds-lookup-end-2 : goal.slice_bounds-lookup-end-2
+slice_bounds-lookup-end-2 c =
+    sym (length-take-le _ _ (work_there c.args.x.numbers c.args.x.lawful _ c.sample_size.ensures.0 _ c.room-work.ensures))
+
+pub returns-in_err-ledger : goal.returns-in_err-ledger
+returns-in_err-ledger c =
     let a = c.args in
-    let n = c.sample_size.result in
-    gives_refused a.x c.args.blocks.now a.amplitudes.now a.classes.now _ _
-    (sample_length a.x n _ c.requires c.sample_size.ensures.0 c.sample_room-sample.ensures)
-    (work_length a.x n _ c.requires c.sample_size.ensures.0 c.work_room-work.ensures) _ _
-    c.lookup-answer.ensures.0 (λ z. c.if-number-ne0.true (c.number.ensures ∙ z))
+    let own = c.sample_size.ensures.0 in
+    let p = err_from_is_err_and c.from_residual.result c.from_residual.ensures.1 in
+    rw (p.1, p.2) (gives_refused a.x.numbers c.args.blocks.now a.amplitudes.now a.classes.now _ _
+    (sample_length a.x.numbers a.x.lawful _ own _ c.room-sample.ensures)
+    (work_length a.x.numbers a.x.lawful _ own _ c.room-work.ensures)
+    _ (sym c.lookup.ensures.0 ∙ c.in_err-ledger.was))
 
 pub returns : goal.returns
 returns c =
     let a = c.args in
-    let n = c.sample_size.result in
-    gives_accepted a.x c.args.blocks.now a.amplitudes.now a.classes.now _ _
-    (sample_length a.x n _ c.requires c.sample_size.ensures.0 c.sample_room-sample.ensures)
-    (work_length a.x n _ c.requires c.sample_size.ensures.0 c.work_room-work.ensures) _ _ _ _
-    (ap (λ (m : ℕ). 4 * m) c.sample_size.ensures.0)
-    c.lookup-answer.ensures.0 c.lookup-answer.ensures.1 (sym c.number.ensures ∙ c.if-number-ne0.false)
+    let own = c.sample_size.ensures.0 in
+    gives_accepted a.x.numbers c.args.blocks.now a.amplitudes.now a.classes.now _ _
+    (sample_length a.x.numbers a.x.lawful _ own _ c.room-sample.ensures)
+    (work_length a.x.numbers a.x.lawful _ own _ c.room-work.ensures)
+    (4 * c.sample_size.result) _ c.lookup.new.sample (drop (4 * c.sample_size.result) c.room-sample.result) c.truncate.new.self.items (ap (λ (m : ℕ). 4 * m) own)
+    (sym c.lookup.ensures.0 ∙ c.in_ok-ledger.was) c.lookup.ensures.1 (c.truncate.ensures.items ∙ ap (take (4 * c.sample_size.result)) c.from-bytes.ensures.0)

@@ -12,9 +12,8 @@ loop-i-preserved c =
     let at = c.loop-i in
     let out = words c.args.out.now in
     let w = c.word.result in
-    let before : c.word_at-w.result ≡ get_or out at.i 0 = c.word_at-w.ensures ∙ at.invariant.2.rest at.i (omega arith) in (
+    let before : c.word_at-w.result ≡ get_or out at.i 0 = c.word_at-w.ensures ∙ at.invariant.1.rest at.i (omega arith) in (
       omega arith,
-      omega arith,
-      rw c.put_word.ensures (stored_more _ _ _ _ at.invariant.2 (omega (arith, length_words c.args.out.now, c.requires.0)) _
+      rw c.put_word.ensures (stored_more _ _ _ _ at.invariant.1 (omega (arith, length_words c.args.out.now, c.requires.0)) _
           (record { word = w; is = c.add.ensures ∙ ap (λ v. add v w) before; known = c.word.ensures })),
     )

@@ -1,10 +1,6 @@
 -- `residues::reduce_sums`'s loop: the first i sums are reduced. Assumes nothing.
-use Rattle.std.proofs.Common.{◌-◌, ◌≤◌, length}
 use Rattle.butterflies.specs.Butterflies.{Stored, Reduced}
 use Rattle.residues.proofs.reduce_sums.Given as goal
 
 abbrev pub invariant-loop-i : goal.invariant-loop-i
-invariant-loop-i l = (l.i ≤ length l.a) × Stored (Reduced l.p l.sums) l.i l.fn.a l.a
-
-abbrev pub decreases-loop-i : goal.decreases-loop-i
-decreases-loop-i l = length l.fn.a - l.i
+invariant-loop-i l = Stored (Reduced l.p l.sums) l.i l.fn.a l.a

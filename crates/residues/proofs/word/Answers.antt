@@ -8,4 +8,4 @@ returns-then-v-le576418972683954176 c = word_low _ _ _ c.crt-v.ensures.1 c.crt-v
 
 pub returns-else-v-le576418972683954176 : goal.returns-else-v-le576418972683954176
 returns-else-v-le576418972683954176 c =
-    word_high _ _ _ c.crt-v.ensures.1 c.crt-v.ensures.2 (omega arith) c.crt-v.ensures.0 _ c.wrapping_sub_u32.ensures.value
+    word_high _ _ _ c.crt-v.ensures.1 c.crt-v.ensures.2 (omega arith) c.crt-v.ensures.0 _ (omega arith)

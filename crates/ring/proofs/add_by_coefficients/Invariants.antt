@@ -1,5 +1,5 @@
 -- The loop's invariant: the first k coefficients are made. Assumes nothing.
-use Rattle.std.proofs.Common.{◌≡◌, ◌-◌, ◌≤◌, length, get_or}
+use Rattle.std.proofs.Common.{◌≡◌, get_or}
 use Rattle.torus.specs.Word.{add}
 use Rattle.torus.specs.Bytes.{words}
 use Rattle.torus.proofs.Lists.{filled}
@@ -8,8 +8,5 @@ use Rattle.ring.proofs.add_by_coefficients.Given as goal
 
 abbrev pub invariant-loop-k : goal.invariant-loop-k
 invariant-loop-k l =
-    (l.k ≤ l.n) × (length l.out ≡ length l.initial.out)
-    × (words l.out ≡ filled l.k (λ i. add (get_or (words l.initial.out) i 0) (product l.n (coefficients (words l.small)) (coefficients (words l.row)) i)) (words l.initial.out))
-
-abbrev pub decreases-loop-k : goal.decreases-loop-k
-decreases-loop-k l = l.n - l.k
+    words l.out ≡ filled l.k (λ i. add (get_or (words l.initial.out) i 0)
+    (product l.n (coefficients (words l.small)) (coefficients (words l.row)) i)) (words l.initial.out)

@@ -5,11 +5,5 @@ use Rattle.rns.proofs.read_product.Goals as goal
 
 pub read_product_in-requires : goal.read_product_in-requires
 read_product_in-requires c =
-    let h = c.requires in (
-      record { degree = h.0; size = omega (arith, h.0.most) },
-      zeros_front (c.args.n - 0) 1024,
-      h.1,
-      h.2,
-      h.3,
-      record { roots = c.write_roots.ensures; quotients = c.write_quotients.ensures },
-    )
+    let h = c.requires in
+    (record { degree = h.0; size = omega (arith, h.0.most) }, zeros_front (c.args.n - 0) 1024, h.1, h.2, h.3)

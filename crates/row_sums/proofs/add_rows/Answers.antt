@@ -6,23 +6,24 @@ use Rattle.ring.proofs.Degrees.{degree_pos}
 use Rattle.row_sums.proofs.Batches.{accumulated_none, accumulated_batch}
 use Rattle.row_sums.proofs.add_rows.Goals as goal
 
-pub loop-r-init : goal.loop-r-init
-loop-r-init c =
-    let a = c.args in (
+pub loop-from-init : goal.loop-from-init
+loop-from-init c =
+    let out = c.args.out.now in
+    let t = c.args.terms.now in (
       omega arith,
       refl,
       refl,
-      accumulated_none a.n a.k a.g a.l (words a.block.now) (words a.x.now) (words a.out.now) (degree_pos a.n c.requires.0)
-          (omega (arith, length_words a.out.now, c.requires.3)) (words_word _ (λ i. (c.type_inv.out i).fits)),
+      accumulated_none t.n t.k t.gadget.g t.gadget.l (words t.block.now) (words t.x.now) (words out) (degree_pos t.n t.degree)
+          (omega (arith, length_words out, c.requires.2)) (words_word _ (λ i. (c.type_inv.out i).fits)),
     )
 
-pub loop-r-preserved : goal.loop-r-preserved
-loop-r-preserved c =
-    let a = c.args in
-    let at = c.loop-r in (
-      omega (arith, c.smaller-count.ensures.1),
+pub loop-from-preserved : goal.loop-from-preserved
+loop-from-preserved c =
+    let t = c.args.terms.now in
+    let at = c.loop-from in (
       omega arith,
       omega arith,
-      accumulated_batch a.n a.k a.g a.l (words a.block.now) (words a.x.now) at.r c.smaller-count.result (words a.out.now) (words at.out) _ at.invariant.3
-          c.add_batch.ensures,
+      omega arith,
+      accumulated_batch t.n t.k t.gadget.g t.gadget.l (words t.block.now) (words t.x.now) at.from _ (words c.args.out.now) (words at.out) _
+          at.invariant.3 c.add_batch.ensures,
     )

@@ -1,12 +1,14 @@
--- `row_sums::add_rows` meets its contract. The loop's invariant: the terms of the first r rows are added. Assumes nothing.
+-- `row_sums::add_rows` meets its contract. The loop's invariant: the terms of the rows before `from` are added. Assumes nothing.
 use Rattle.std.proofs.Common.{◌-◌, ◌≡◌, suc, ◌*◌, ◌≤◌, length}
 use Rattle.torus.specs.Bytes.{words}
 use Rattle.row_sums.proofs.Batches.{Accumulated}
 use Rattle.row_sums.proofs.add_rows.Given as goal
 
-abbrev pub invariant-loop-r : goal.invariant-loop-r
-invariant-loop-r l = (l.r ≤ suc l.k * l.l) × (length l.out ≡ length l.fn.out) × (length l.room ≡ length l.fn.room)
-    × Accumulated l.n l.k l.g l.l (words l.block) (words l.x) l.r (words l.fn.out) (words l.out)
+abbrev pub invariant-loop-from : goal.invariant-loop-from
+invariant-loop-from l =
+    let t = l.terms in
+    (l.from ≤ suc t.k * t.gadget.l) × (length l.out ≡ length l.fn.out) × (length l.room ≡ length l.fn.room)
+    × Accumulated t.n t.k t.gadget.g t.gadget.l (words t.block.now) (words t.x.now) l.from (words l.fn.out) (words l.out)
 
-abbrev pub decreases-loop-r : goal.decreases-loop-r
-decreases-loop-r l = suc l.k * l.l - l.r
+abbrev pub decreases-loop-from : goal.decreases-loop-from
+decreases-loop-from l = suc l.terms.k * l.terms.gadget.l - l.from

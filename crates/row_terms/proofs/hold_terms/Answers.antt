@@ -6,14 +6,14 @@ use Rattle.row_terms.proofs.RowLaws.{held_more}
 use Rattle.row_terms.proofs.hold_terms.Goals as goal
 
 pub loop-j-init : goal.loop-j-init
-loop-j-init c = (omega arith, refl, refl, held_none c.args.prime _ _ _ _ _ c.args.sums.now c.requires.1)
+loop-j-init c = (refl, refl, held_none c.args.prime _ _ _ _ _ c.args.sums.now c.requires.1)
 
 pub loop-j-preserved : goal.loop-j-preserved
 loop-j-preserved c =
-    let s = c.args in
+    let b = c.args.batch.now in
+    let t = b.terms in
     let at = c.loop-j in (
       omega arith,
       omega arith,
-      omega arith,
-      held_more s.prime s.n s.k s.g s.l (words s.block.now) (words s.x.now) s.from at.j _ _ at.invariant.3 c.hold_term.ensures,
+      held_more c.args.prime t.n t.k t.gadget.g t.gadget.l (words t.block.now) (words t.x.now) b.from at.j _ _ at.invariant.2 c.hold_term.ensures,
     )

@@ -6,13 +6,10 @@ use Rattle.row_terms.proofs.read_terms.Goals as goal
 
 pub read_terms_in-requires : goal.read_terms_in-requires
 read_terms_in-requires c =
-    let s = c.args in
-    let h = c.requires in (
-      record { degree = h.0; size = omega (arith, size_le s.k s.n h.1 h.0.most) },
-      zeros_front ((s.k + 1) * s.n - 0) 2048,
-      h.2,
-      h.3,
-      h.4,
-      h.5,
-      h.6,
+    let b = c.args.batch.now in
+    let t = b.terms in (
+      record { degree = t.degree; size = omega (arith, size_le t.k t.n b.narrow t.degree.most) },
+      zeros_front ((t.k + 1) * t.n - 0) 2048,
+      c.requires.0,
+      c.requires.1,
     )

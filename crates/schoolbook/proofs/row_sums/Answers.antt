@@ -1,17 +1,18 @@
--- `schoolbook::row_sums` meets its contract. The loop's invariant: acc has the sums of the last m rows. Assumes nothing.
-use Rattle.std.proofs.Common.{arith}
+-- `schoolbook::row_sums` meets its contract. The loop's invariant: sums has the sums of the rows from the i-th on. Assumes nothing.
+use Rattle.std.proofs.Common.{◌≡◌, ◌-◌, ap, ◌∙◌, arith, get_or}
+use Rattle.std.proofs.lemmas.List.{get_or-replicate}
 use Rattle.torus.specs.Bytes.{words}
-use Rattle.schoolbook.proofs.RowSums.{row_none, row_more}
+use Rattle.schoolbook.proofs.RowSums.{row_none, row_down}
 use Rattle.schoolbook.proofs.row_sums.Goals as goal
 
-pub loop-m-init : goal.loop-m-init
-loop-m-init c =
-    (omega arith, omega arith, row_none c.args.n (words c.args.small.now) c.args.table.now c.clear.new.acc c.clear.ensures)
+pub loop-i-init : goal.loop-i-init
+loop-i-init g c =
+    let n = c.args.pair.n in
+    let none : n - n ≡ 0 = omega arith in
+    rw none (row_none n (words c.args.pair.small.now) c.args.table.now c.fill.new.self
+    (λ k l. ap (λ m. get_or m k 0) (c.fill.ensures.after (λ y e. e)) ∙ get_or-replicate _ k 0 0 (omega arith)))
 
-pub loop-m-preserved : goal.loop-m-preserved
-loop-m-preserved c = (
-  omega arith,
-  omega arith,
-  row_more c.args.n c.loop-m.m c.word_at-d.result (words c.args.small.now) c.args.table.now c.loop-m.acc c.add_scaled.new.acc c.word_at-d.ensures
-      c.loop-m.invariant.2 c.add_scaled.ensures,
-)
+pub loop-i-preserved : goal.loop-i-preserved
+loop-i-preserved g c =
+    row_down c.args.pair.n c.loop-i.i _ c.word_at-d.result (words c.args.pair.small.now) c.args.table.now c.loop-i.sums c.add_scaled.new.acc
+    (omega arith) (omega arith) (omega arith) c.word_at-d.ensures c.loop-i.invariant (λ k l. c.add_scaled.ensures k (omega arith))

@@ -19,7 +19,7 @@ each n out small row m c l = length_tabulate n _
 pub loop-c-init : goal.loop-c-init
 loop-c-init c =
     let s = c.args in
-    (omega arith, refl, refl, refl, written_none s.n (made s.n s.out.now s.small.now s.row.now) (words s.out.now))
+    (refl, refl, written_none s.n (made s.n s.out.now s.small.now s.row.now) (words s.out.now))
 
 pub loop-c-preserved : goal.loop-c-preserved
 loop-c-preserved c =
@@ -30,13 +30,11 @@ loop-c-preserved c =
     let inside : p + 4 * s.n ≤ 4 * (suc s.k * s.n) = omega (arith, chunk_inside at.c (suc s.k) s.n l) in
     let f = made s.n s.out.now s.small.now s.row.now in
     let lent : words _ ≡ chunk s.n at.c (words s.out.now) =
-    written_lent s.n at.c p (p + 4 * s.n - p) f (words s.out.now) at.out (each _ _ _ _ _) at.invariant.4 (omega arith) (omega arith) in
+    written_lent s.n at.c p (p + 4 * s.n - p) f (words s.out.now) at.out (each _ _ _ _ _) at.invariant.2 (omega arith) (omega arith) in
     let row : words _ ≡ chunk s.n at.c (words s.row.now) = words_lent (at.c * s.n) s.n p (p + 4 * s.n - p) s.row.now (omega arith) (omega arith) in (
       omega arith,
       omega arith,
-      omega arith,
-      omega arith,
-      written_more s.n at.c p (p + 4 * s.n - p) f (words s.out.now) at.out (each _ _ _ _ _) at.invariant.4 (omega arith) (omega arith) _
+      written_more s.n at.c p (p + 4 * s.n - p) f (words s.out.now) at.out (each _ _ _ _ _) at.invariant.2 (omega arith) (omega arith) _
           (omega arith) (omega arith)
           (c.add_sparse_product_in.ensures ∙ ap₂ (λ o r. add_product s.n o (words s.small.now) r) lent row),
     )
@@ -47,4 +45,4 @@ returns c =
     let at = c.loop-c in
     let e : at.c ≡ suc s.k = omega arith in
     written_all s.n (suc s.k) (made s.n s.out.now s.small.now s.row.now) (words s.out.now) (words at.out)
-    (omega (arith, length_words s.out.now)) (rw e at at.invariant.4)
+    (omega (arith, length_words s.out.now)) (rw e at at.invariant.2)

@@ -1,5 +1,5 @@
 -- `schoolbook_rows::add_row` meets its contract. The loop's invariant: the first c polynomials are done. Assumes nothing.
-use Rattle.std.proofs.Common.{◌-◌, ◌≡◌, suc, ◌≤◌, length}
+use Rattle.std.proofs.Common.{◌≡◌, length}
 use Rattle.torus.specs.Sum.{chunk}
 use Rattle.torus.specs.Bytes.{words}
 use Rattle.torus.proofs.Joined.{Written}
@@ -8,8 +8,5 @@ use Rattle.schoolbook_rows.proofs.add_row.Given as goal
 
 abbrev pub invariant-loop-c : goal.invariant-loop-c
 invariant-loop-c l =
-    (l.c ≤ suc l.k) × (length l.out ≡ length l.fn.out) × (length l.table ≡ length l.fn.table) × (length l.sums ≡ length l.fn.sums)
+    (length l.out ≡ length l.fn.out) × (length l.room ≡ length l.fn.room)
     × Written l.n l.c (λ c. add_product l.n (chunk l.n c (words l.fn.out)) (words l.small) (chunk l.n c (words l.row))) (words l.fn.out) (words l.out)
-
-abbrev pub decreases-loop-c : goal.decreases-loop-c
-decreases-loop-c l = suc l.k - l.c

@@ -9,25 +9,22 @@ use Rattle.schoolbook_rows.proofs.add_terms.Goals as goal
 
 pub loop-r-init : goal.loop-r-init
 loop-r-init c =
-    let s = c.args in (
-      omega arith,
+    let out = c.args.out.now in
+    let t = c.args.terms.now in (
       refl,
       refl,
       refl,
-      refl,
-      accumulated_none s.n s.k s.g s.l (words s.block.now) (words s.x.now) (words s.out.now) (degree_pos s.n c.requires.0)
-          (omega (arith, length_words s.out.now, c.requires.2)) (words_word _ (λ i. (c.type_inv.out i).fits)),
+      accumulated_none t.n t.k t.gadget.g t.gadget.l (words t.block.now) (words t.x.now) (words out) (degree_pos t.n t.degree)
+          (omega (arith, length_words out, c.requires.0)) (words_word _ (λ i. (c.type_inv.out i).fits)),
     )
 
 pub loop-r-preserved : goal.loop-r-preserved
 loop-r-preserved c =
-    let s = c.args in
+    let t = c.args.terms.now in
     let at = c.loop-r in (
       omega arith,
       omega arith,
       omega arith,
-      omega arith,
-      omega arith,
-      accumulated_more s.n s.k s.g s.l (words s.block.now) (words s.x.now) at.r (words s.out.now) (words at.out) _ at.invariant.5
+      accumulated_more t.n t.k t.gadget.g t.gadget.l (words t.block.now) (words t.x.now) at.r (words c.args.out.now) (words at.out) _ at.invariant.3
           c.add_term.ensures,
     )

@@ -1,5 +1,5 @@
 -- `selectors::encrypt` meets its contract. The loop's invariant: the first r rows are written. Assumes nothing.
-use Rattle.std.proofs.Common.{arith, ◌≡◌, ℕ, ◌+◌, ◌*◌, ◌-◌, ◌<◌, List, refl}
+use Rattle.std.proofs.Common.{arith, ◌≡◌, ℕ, ◌+◌, ◌*◌, ◌-◌, ◌<◌, List}
 use Rattle.torus.specs.Bytes.{words}
 use Rattle.torus.proofs.Parts.{length_words}
 use Rattle.torus.proofs.Joined.{Each, written_none, written_more, written_all, chunk_inside}
@@ -16,8 +16,8 @@ each p m key masks errors q r h = length_row p m (words key) _ _ r
 pub loop-r-init : goal.loop-r-init
 loop-r-init c =
     let s = c.args in
-    let f = made s.p s.m s.key.now s.masks.now s.errors.now in
-    (omega arith, refl, written_none (sample_size s.p) f (words s.block.now))
+    let f = made s.p s.lent.now.bit s.lent.now.key.now s.lent.now.masks.now s.lent.now.errors.now in
+    written_none (sample_size s.p) f (words s.block.now)
 
 -- The row of a turn lies inside.
 pub overflow_mul-at : goal.overflow_mul-at
@@ -46,18 +46,15 @@ loop-r-preserved c =
     let inside = chunk_inside at.r (row_count s.p) (sample_size s.p) lt in
     let q = (s.p.k + 1) * (4 * s.p.N) in
     let p = at.r * q in
-    let f = made s.p s.m s.key.now s.masks.now s.errors.now in (
-      omega arith,
-      omega arith,
-      written_more (sample_size s.p) at.r p (p + q - p) f (words s.block.now) at.block (each _ _ _ _ _ _) at.invariant.2 (omega arith) (omega arith) _
-          (omega (arith, inside)) (omega arith) c.write_row.ensures,
-    )
+    let f = made s.p s.lent.now.bit s.lent.now.key.now s.lent.now.masks.now s.lent.now.errors.now in
+    written_more (sample_size s.p) at.r p (p + q - p) f (words s.block.now) at.block (each _ _ _ _ _ _) at.invariant (omega arith) (omega arith) _
+    (omega (arith, inside)) (omega arith) c.write_row.ensures
 
 pub returns : goal.returns
 unfolding encrypted_block
 returns c =
     let s = c.args in
     let at = c.loop-r in
-    let f = made s.p s.m s.key.now s.masks.now s.errors.now in
+    let f = made s.p s.lent.now.bit s.lent.now.key.now s.lent.now.masks.now s.lent.now.errors.now in
     let e : at.r ≡ row_count s.p = omega arith in
-    written_all (sample_size s.p) (row_count s.p) f (words s.block.now) (words at.block) (omega (arith, length_words s.block.now)) (rw e at at.invariant.2)
+    written_all (sample_size s.p) (row_count s.p) f (words s.block.now) (words at.block) (omega (arith, length_words s.block.now)) (rw e at at.invariant)

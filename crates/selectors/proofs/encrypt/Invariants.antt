@@ -1,10 +1,10 @@
 -- The loop's invariant: the first r rows are written. Assumes nothing.
-use Rattle.std.proofs.Common.{◌≡◌, ℕ, ◌-◌, ◌≤◌, List, length}
+use Rattle.std.proofs.Common.{ℕ, List}
 use Rattle.torus.specs.Sum.{chunk}
 use Rattle.torus.specs.Bytes.{words}
 use Rattle.torus.proofs.Joined.{Written}
 use Rattle.trgsw.specs.declared.Parameters.{Parameters}
-use Rattle.trgsw.specs.Parameters.{key_size, sample_size, row_count}
+use Rattle.trgsw.specs.Parameters.{key_size, sample_size}
 use Rattle.selectors.specs.Encrypted.{encrypted_row}
 use Rattle.selectors.proofs.encrypt.Given as goal
 
@@ -14,8 +14,4 @@ made p m key masks errors r = encrypted_row p m (words key) (chunk (key_size p) 
 
 abbrev pub invariant-loop-r : goal.invariant-loop-r
 invariant-loop-r l =
-    (l.r ≤ row_count l.p) × (length l.block ≡ length l.fn.block)
-    × Written (sample_size l.p) l.r (made l.p l.m l.key l.masks l.errors) (words l.fn.block) (words l.block)
-
-abbrev pub decreases-loop-r : goal.decreases-loop-r
-decreases-loop-r l = row_count l.p - l.r
+    Written (sample_size l.p) l.r (made l.p l.lent.bit l.lent.key.now l.lent.masks.now l.lent.errors.now) (words l.fn.block) (words l.block)

@@ -2,40 +2,30 @@
 use Rattle.std.proofs.Common.{arith, ◌≡◌, ap, sym, subst, ◌∙◌}
 use Rattle.torus.specs.Bytes.{words}
 use Rattle.answers.specs.Answers.{number}
-use Rattle.answers.proofs.Laws.{after_refused, after_accepted}
+use Rattle.answers.proofs.Laws.{after_accepted}
 use Rattle.trgsw.specs.Parameters.{parameters, block_size}
 use Rattle.selectors.specs.Encrypted.{encrypted_block}
 use Rattle.selectors.specs.Calls as Calls
 use Rattle.selectors.proofs.Accepted.{selector_accepted}
 use Rattle.selectors.proofs.encrypt_selector.Goals as goal
 
-pub returns-then-fault-ne0 : goal.returns-then-fault-ne0
-unfolding Calls.encrypt_selector_block
-returns-then-fault-ne0 c =
-    let e = c.number-fault.ensures ∙ ap number c.encrypt_selector_answer.ensures in
-    (e, after_refused _ _ _ (λ z. c.if-fault-ne0.true (e ∙ z)))
-
 -- What holds of the arguments past the test.
 pub parameter_set-requires : goal.parameter_set-requires
-parameter_set-requires c =
-    (selector_accepted _ (sym (c.number-fault.ensures ∙ ap number c.encrypt_selector_answer.ensures) ∙ c.if-fault-ne0.false)).scheme
-
-pub overflow_cast-bit : goal.overflow_cast-bit
-overflow_cast-bit c =
-    let fit = selector_accepted _ (sym (c.number-fault.ensures ∙ ap number c.encrypt_selector_answer.ensures) ∙ c.if-fault-ne0.false) in
-    omega (arith, fit.rows.bit)
+parameter_set-requires c = (selector_accepted _ (ap number (sym c.encrypt_selector_answer.ensures ∙ c.in_ok-ledger.was))).scheme
 
 pub encrypt-requires : goal.encrypt-requires
 encrypt-requires c =
-    let fit = selector_accepted _ (sym (c.number-fault.ensures ∙ ap number c.encrypt_selector_answer.ensures) ∙ c.if-fault-ne0.false) in
+    let fit = selector_accepted _ (ap number (sym c.encrypt_selector_answer.ensures ∙ c.in_ok-ledger.was)) in
     rw c.parameter_set.ensures (fit.rows, fit.block_length)
 
 pub returns : goal.returns
 unfolding Calls.encrypt_selector_block
 returns c =
-    let s = c.args in
-    let e = sym (c.number-fault.ensures ∙ ap number c.encrypt_selector_answer.ensures) ∙ c.if-fault-ne0.false in
+    let s = c.args.lent.now in
+    let e = ap number (sym c.encrypt_selector_answer.ensures ∙ c.in_ok-ledger.was) in
     let fit = selector_accepted _ e in
     let made = subst (λ p. words c.encrypt.new.block ≡ encrypted_block p s.bit (words s.key.now) (words s.masks.now) (words s.errors.now))
-    c.parameter_set.ensures c.encrypt.ensures in
-    (sym e, after_accepted _ (block_size (parameters s.x)) _ _ _ e (omega (arith, fit.block_length)) (λ i. (c.type_inv.block i).fits) made)
+    c.parameter_set.ensures c.encrypt.ensures in (
+      sym c.in_ok-ledger.was ∙ c.encrypt_selector_answer.ensures,
+      after_accepted _ (block_size (parameters s.scheme)) _ _ _ e (omega (arith, fit.block_length)) (λ i. (c.type_inv.block i).fits) made,
+    )

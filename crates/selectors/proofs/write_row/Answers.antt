@@ -17,14 +17,14 @@ use Rattle.selectors.proofs.write_row.Goals as goal
 pub overflow_mul-a : goal.overflow_mul-a
 overflow_mul-a c = let s = c.args in omega (arith, chunk_inside s.r (row_count s.p) (key_size s.p) c.requires.1, c.requires.0.masks_length)
 
-pub overflow_add-a : goal.overflow_add-a
-overflow_add-a c = let s = c.args in omega (arith, chunk_inside s.r (row_count s.p) (key_size s.p) c.requires.1, c.requires.0.masks_length)
+pub overflow_add-zero : goal.overflow_add-zero
+overflow_add-zero c = let s = c.args in omega (arith, chunk_inside s.r (row_count s.p) (key_size s.p) c.requires.1, c.requires.0.masks_length)
 
-pub slice_bounds-encrypt_zero-end : goal.slice_bounds-encrypt_zero-end
-slice_bounds-encrypt_zero-end c = let s = c.args in omega (arith, chunk_inside s.r (row_count s.p) (key_size s.p) c.requires.1, c.requires.0.masks_length)
+pub slice_bounds-zero-end : goal.slice_bounds-zero-end
+slice_bounds-zero-end c = let s = c.args in omega (arith, chunk_inside s.r (row_count s.p) (key_size s.p) c.requires.1, c.requires.0.masks_length)
 
-pub slice_bounds-encrypt_zero-end-2 : goal.slice_bounds-encrypt_zero-end-2
-slice_bounds-encrypt_zero-end-2 c = let s = c.args in omega (arith, chunk_inside s.r (row_count s.p) s.p.N c.requires.1, c.requires.0.errors_length)
+pub slice_bounds-zero-end-2 : goal.slice_bounds-zero-end-2
+slice_bounds-zero-end-2 c = let s = c.args in omega (arith, chunk_inside s.r (row_count s.p) s.p.N c.requires.1, c.requires.0.errors_length)
 
 -- The word to which the step is added lies in the row.
 pub add_gadget-requires : goal.add_gadget-requires
@@ -43,7 +43,7 @@ returns c =
     let e = s.r * (4 * s.p.N) in
     let size : length (words zero.new.sample) ≡ sample_size s.p = omega (arith, length_words zero.new.sample) in
     c.add_gadget.ensures
-    ∙ ap₂ (λ w row. tabulate w (λ t. add (get_or row t 0) (gadget_row s.p s.m s.r t))) size
-    (zero.ensures ∙ ap₂ (λ a b. encryption s.p.N s.p.k (words s.key.now) a b (λ i. 0))
-    (words_lent (s.r * key_size s.p) (key_size s.p) p (p + q - p) s.masks.now (omega arith) (omega arith))
-    (words_lent (s.r * s.p.N) s.p.N e (e + 4 * s.p.N - e) s.errors.now (omega arith) (omega arith)))
+    ∙ ap₂ (λ w row. tabulate w (λ t. add (get_or row t 0) (gadget_row s.p s.lent.now.bit s.r t))) size
+    (zero.ensures ∙ ap₂ (λ a b. encryption s.p.N s.p.k (words s.lent.now.key.now) a b (λ i. 0))
+    (words_lent (s.r * key_size s.p) (key_size s.p) p (p + q - p) s.lent.now.masks.now (omega arith) (omega arith))
+    (words_lent (s.r * s.p.N) s.p.N e (e + 4 * s.p.N - e) s.lent.now.errors.now (omega arith) (omega arith)))

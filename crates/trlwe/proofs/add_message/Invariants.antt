@@ -1,6 +1,6 @@
 -- `trlwe::add_message` meets its contract. The loop's invariant: the encodings of the first i classes are added, and what they are
 -- added to is words of 32 bits. Assumes nothing.
-use Rattle.std.proofs.Common.{ℕ, ◌-◌, ◌^◌, ◌≡◌, ◌≤◌, ◌<◌, length, get_or}
+use Rattle.std.proofs.Common.{ℕ, ◌^◌, ◌≡◌, ◌<◌, get_or}
 use Rattle.torus.specs.Word as W
 use Rattle.torus.specs.Bytes.{words}
 use Rattle.torus.proofs.Lists.{filled}
@@ -9,9 +9,6 @@ use Rattle.trlwe.proofs.add_message.Given as goal
 
 abbrev pub invariant-loop-i : goal.invariant-loop-i
 invariant-loop-i l =
-    (l.i ≤ l.s) × (length l.body ≡ length l.fn.body)
-    × (words l.body ≡ filled l.i (λ j. W.add (get_or (words l.fn.body) j 0) (Classes.encode l.m (get_or (words l.classes) j 0))) (words l.fn.body))
+    (words l.body
+    ≡ filled l.i (λ j. W.add (get_or (words l.fn.body) j 0) (Classes.encode l.message.encoding.m (get_or (words l.message.classes.now) j 0))) (words l.fn.body))
     × ((j : ℕ) → get_or (words l.fn.body) j 0 < 2 ^ 32)
-
-abbrev pub decreases-loop-i : goal.decreases-loop-i
-decreases-loop-i l = l.s - l.i

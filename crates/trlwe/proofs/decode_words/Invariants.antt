@@ -1,6 +1,6 @@
 -- `trlwe::decode_words` meets its contract. The loop's invariant: the first i words are the classes of the first i phases.
 -- Assumes nothing.
-use Rattle.std.proofs.Common.{◌-◌, ◌≡◌, ◌+◌, ◌≤◌, length, get_or}
+use Rattle.std.proofs.Common.{◌≡◌, ◌+◌, get_or}
 use Rattle.torus.specs.Word as W
 use Rattle.torus.specs.Bytes.{words}
 use Rattle.torus.proofs.Lists.{filled}
@@ -9,8 +9,5 @@ use Rattle.trlwe.proofs.decode_words.Given as goal
 
 abbrev pub invariant-loop-i : goal.invariant-loop-i
 invariant-loop-i l =
-    (l.i ≤ l.s) × (length l.classes ≡ length l.fn.classes)
-    × (words l.classes ≡ filled l.i (λ j. Classes.decode l.m (W.sub (get_or (words l.sample) (l.from + j) 0) (get_or (words l.room) j 0))) (words l.fn.classes))
-
-abbrev pub decreases-loop-i : goal.decreases-loop-i
-decreases-loop-i l = l.s - l.i
+    words l.classes
+    ≡ filled l.i (λ j. Classes.decode l.encoding.m (W.sub (get_or (words l.sample) (l.from + j) 0) (get_or (words l.room) j 0))) (words l.fn.classes)

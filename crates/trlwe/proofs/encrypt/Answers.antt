@@ -11,13 +11,15 @@ pub returns : goal.returns
 unfolding encryption
 returns c =
     let s = c.args in
-    let n = s.k * s.n in
-    let p = length s.a.now in
+    let x = s.x.now in
+    let key = x.key in
+    let n = key.k * key.n in
+    let p = length x.masks.now in
     let zero = c.encrypt_zero in
-    let size : length (words s.a.now) ≡ n = omega (arith, length_words s.a.now) in
-    let all = length_tabulate s.n _ in
-    body_back s.n n p (length zero.new.sample - p) zero.new.sample (words s.a.now) _ zero.ensures size all (omega arith) (omega arith) _ (omega arith) (omega arith)
-    ∙ ap (λ ws. words s.a.now ++ ws)
-    (message_made s.n s.k (words s.key.now) (words s.a.now) (words s.errors.now) _ _ _
-    (body_lent s.n n p (length zero.new.sample - p) zero.new.sample (words s.a.now) _ zero.ensures size all (omega arith) (omega arith))
-    c.add_message.ensures)
+    let size : length (words x.masks.now) ≡ n = omega (arith, length_words x.masks.now) in
+    let all = length_tabulate key.n _ in
+    body_back key.n n p (length zero.new.sample - p) zero.new.sample (words x.masks.now) _ zero.ensures size all (omega arith) (omega arith) _ (omega arith) (omega arith)
+    ∙ ap (λ ws. words x.masks.now ++ ws)
+    (message_made key.n key.k _ (words key.polynomials.now) (words x.masks.now) (words x.errors.now) _ _ _
+    (body_lent key.n n p (length zero.new.sample - p) zero.new.sample (words x.masks.now) _ zero.ensures size all (omega arith) (omega arith))
+    (omega arith) c.add_message.ensures)

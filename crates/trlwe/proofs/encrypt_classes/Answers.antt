@@ -1,27 +1,47 @@
 -- `trlwe::encrypt_classes` meets its contract. Assumes nothing.
-use Rattle.std.proofs.Common.{arith, ap, sym, ◌∙◌, ◌*◌}
+use Rattle.std.proofs.Common.{◌≡◌, ◌*◌, ◌/◌, length, arith, ap, sym, ◌∙◌}
+use Rattle.torus.specs.Bytes.{words}
 use Rattle.answers.specs.Answers.{number}
-use Rattle.answers.proofs.Laws.{after_refused, after_accepted}
+use Rattle.answers.proofs.Laws.{after_accepted}
+use Rattle.trlwe.specs.Classes.{message}
+use Rattle.trlwe.specs.Sample.{encryption}
 use Rattle.trlwe.specs.Calls as Calls
 use Rattle.trlwe.proofs.Accepted.{encrypt_accepted}
 use Rattle.trlwe.proofs.encrypt_classes.Goals as goal
 
-pub returns-then-fault-ne0 : goal.returns-then-fault-ne0
-unfolding Calls.encrypt_classes_sample
-returns-then-fault-ne0 c =
-    let e = c.number-fault.ensures ∙ ap number c.encrypt_classes_answer.ensures in
-    (e, after_refused _ _ _ (λ z. c.if-fault-ne0.true (e ∙ z)))
+pub invariant_of-key : goal.invariant_of-key
+invariant_of-key c =
+    record { fits = (encrypt_accepted _ _ _ _ _ _ _ _ (ap number (sym c.encrypt_classes_answer.ensures ∙ c.in_ok-ledger.was))).key_fits }
+
+pub invariant_of-message : goal.invariant_of-message
+invariant_of-message c =
+    record { class_number = (encrypt_accepted _ _ _ _ _ _ _ _ (ap number (sym c.encrypt_classes_answer.ensures ∙ c.in_ok-ledger.was))).class_number }
+
+pub invariant_of-message-2 : goal.invariant_of-message-2
+invariant_of-message-2 c =
+    let f = encrypt_accepted _ _ _ _ _ _ _ _ (ap number (sym c.encrypt_classes_answer.ensures ∙ c.in_ok-ledger.was)) in
+    record { below = λ i l. f.below i (omega (arith, f.classes_length)) }
+
+pub invariant_of-encryption : goal.invariant_of-encryption
+invariant_of-encryption c =
+    let f = encrypt_accepted _ _ _ _ _ _ _ _ (ap number (sym c.encrypt_classes_answer.ensures ∙ c.in_ok-ledger.was)) in
+    record { masks_length = omega (arith, f.mask_length); errors_length = f.errors_length }
 
 pub encrypt-requires : goal.encrypt-requires
 encrypt-requires c =
-    let e = c.number-fault.ensures ∙ ap number c.encrypt_classes_answer.ensures in
-    -- What holds of the arguments past the test.
-    let f = encrypt_accepted _ _ _ _ _ _ _ _ (sym e ∙ c.if-fault-ne0.false) in
-    (f.key_fits, omega (arith, f.sample_length), omega (arith, f.mask_length), f.errors_length, f.class_number, f.most, f.classes_length, f.below)
+    let f = encrypt_accepted _ _ _ _ _ _ _ _ (ap number (sym c.encrypt_classes_answer.ensures ∙ c.in_ok-ledger.was)) in
+    (omega (arith, f.sample_length), omega (arith, f.classes_length, f.most))
 
 pub returns : goal.returns
 unfolding Calls.encrypt_classes_sample
 returns c =
-    let e = sym (c.number-fault.ensures ∙ ap number c.encrypt_classes_answer.ensures) ∙ c.if-fault-ne0.false in
+    let a = c.args in
+    let e = ap number (sym c.encrypt_classes_answer.ensures ∙ c.in_ok-ledger.was) in
     let f = encrypt_accepted _ _ _ _ _ _ _ _ e in
-    (sym e, after_accepted _ (2 * c.args.n) _ _ _ e (omega (arith, f.sample_length)) (λ i. (c.type_inv.sample i).fits) c.encrypt.ensures)
+    let count : length a.classes.now / 4 ≡ a.s = omega (arith, f.classes_length) in
+    let written =
+    c.encrypt.ensures
+    ∙ ap (λ s. encryption a.n 1 (words a.key.now) (words a.mask.now) (words a.errors.now) (message a.m s (words a.classes.now))) count in (
+      sym c.in_ok-ledger.was ∙ c.encrypt_classes_answer.ensures,
+      after_accepted _ (2 * a.n) _ _ _ e (omega (arith, f.sample_length)) (λ i. (c.type_inv.sample i).fits) written,
+    )

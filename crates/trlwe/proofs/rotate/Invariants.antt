@@ -1,5 +1,5 @@
 -- `trlwe::rotate` meets its contract. The loop's invariant: the first c polynomials are rotated. Assumes nothing.
-use Rattle.std.proofs.Common.{◌-◌, ◌≡◌, ℕ, suc, ◌≤◌, List, length}
+use Rattle.std.proofs.Common.{ℕ, List}
 use Rattle.torus.specs.Sum.{tabulate}
 use Rattle.torus.specs.Bytes.{words}
 use Rattle.torus.proofs.Joined.{Written}
@@ -12,8 +12,4 @@ abbrev pub made : (n r : ℕ) (sample : List ℕ) (c : ℕ) → List ℕ
 made n r sample c = tabulate n (rotated n r (part n (words sample) c))
 
 abbrev pub invariant-loop-c : goal.invariant-loop-c
-invariant-loop-c l =
-    (l.c ≤ suc l.k) × (length l.out ≡ length l.fn.out) × Written l.n l.c (made l.n l.r l.sample) (words l.fn.out) (words l.out)
-
-abbrev pub decreases-loop-c : goal.decreases-loop-c
-decreases-loop-c l = suc l.k - l.c
+invariant-loop-c l = Written l.n l.c (made l.n l.r l.sample) (words l.fn.out) (words l.out)

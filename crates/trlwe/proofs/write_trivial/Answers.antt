@@ -11,6 +11,7 @@ pub returns : goal.returns
 unfolding trivial
 returns c =
     let a = c.args in
+    let s = a.message.now in
     let n = a.k * a.n in
     let p = 4 * n in
     let zero : List ℕ = c.clear_words.new.out in
@@ -23,6 +24,6 @@ returns c =
     let back : length body ≡ a.n = length-replicate {A = ℕ} a.n 0 in
     body_back a.n n p (length zero - p) zero masks body made front back (omega arith) (omega arith) _ (omega arith) (omega arith)
     ∙ ap (λ ws. masks ++ ws)
-    (trivial_made a.n _ _ _ (body_lent a.n n p (length zero - p) zero masks body made front back (omega arith) (omega arith))
-    (message_word a.m a.s (words a.classes.now) c.requires.1 c.requires.4)
-    c.add_message.ensures)
+    (trivial_made a.n _ _ _ _ (body_lent a.n n p (length zero - p) zero masks body made front back (omega arith) (omega arith))
+    (message_word s.encoding.m (length s.classes.now / 4) (words s.classes.now) s.encoding.class_number s.below)
+    (omega arith) c.add_message.ensures)

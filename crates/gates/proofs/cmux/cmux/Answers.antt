@@ -2,7 +2,7 @@
 use Rattle.std.proofs.Common.{arith, ◌≡◌, ap, sym, subst, ◌∙◌}
 use Rattle.torus.specs.Bytes.{words}
 use Rattle.answers.specs.Answers.{number}
-use Rattle.answers.proofs.Laws.{after_refused, after_accepted}
+use Rattle.answers.proofs.Laws.{after_accepted}
 use Rattle.trgsw.specs.Parameters.{parameters, sample_size}
 use Rattle.trgsw.specs.External.{cmux_sample}
 use Rattle.trgsw.proofs.Told.{masks_most}
@@ -10,20 +10,13 @@ use Rattle.gates.specs.Calls as Calls
 use Rattle.gates.proofs.Accepted.{cmux_accepted}
 use Rattle.gates.proofs.cmux.cmux.Goals as goal
 
-pub returns-then-fault-ne0 : goal.returns-then-fault-ne0
-unfolding Calls.cmux_out
-returns-then-fault-ne0 c =
-    let e = c.number-fault.ensures ∙ ap number c.cmux_answer.ensures in
-    (e, after_refused _ _ _ (λ z. c.if-fault-ne0.true (e ∙ z)))
-
 -- What holds of the arguments past the test.
 pub parameter_set-requires : goal.parameter_set-requires
-parameter_set-requires c =
-    (cmux_accepted _ (sym (c.number-fault.ensures ∙ ap number c.cmux_answer.ensures) ∙ c.if-fault-ne0.false)).scheme
+parameter_set-requires c = (cmux_accepted _ (ap number (sym c.cmux_answer.ensures ∙ c.in_ok-ledger.was))).scheme
 
 pub cmux_roomed-requires : goal.cmux_roomed-requires
 cmux_roomed-requires c =
-    let fit = cmux_accepted _ (sym (c.number-fault.ensures ∙ ap number c.cmux_answer.ensures) ∙ c.if-fault-ne0.false) in
+    let fit = cmux_accepted _ (ap number (sym c.cmux_answer.ensures ∙ c.in_ok-ledger.was)) in
     rw c.parameter_set.ensures (
       record {
         degree = fit.scheme.degree;
@@ -33,16 +26,16 @@ cmux_roomed-requires c =
         y_length = fit.out_length;
       },
       fit.sample₁_length,
-      masks_most c.args.x,
+      masks_most c.args.lent.now.scheme,
     )
 
 pub returns : goal.returns
 unfolding Calls.cmux_out
 returns c =
     let s = c.args in
-    let p = parameters s.x in
-    let e = sym (c.number-fault.ensures ∙ ap number c.cmux_answer.ensures) ∙ c.if-fault-ne0.false in
+    let p = parameters s.lent.now.scheme in
+    let e = ap number (sym c.cmux_answer.ensures ∙ c.in_ok-ledger.was) in
     let fit = cmux_accepted _ e in
-    let made = subst (λ q. words c.cmux_roomed.new.out ≡ cmux_sample q (words s.block.now) (words s.sample0.now) (words s.sample1.now))
+    let made = subst (λ q. words c.cmux_roomed.new.out ≡ cmux_sample q (words s.lent.now.block.now) (words s.lent.now.sample0.now) (words s.lent.now.sample1.now))
     c.parameter_set.ensures c.cmux_roomed.ensures in
-    (sym e, after_accepted _ (sample_size p) _ _ _ e (omega (arith, fit.out_length)) (λ i. (c.type_inv.out i).fits) made)
+    (sym c.in_ok-ledger.was ∙ c.cmux_answer.ensures, after_accepted _ (sample_size p) _ _ _ e (omega (arith, fit.out_length)) (λ i. (c.type_inv.out i).fits) made)

@@ -2,7 +2,7 @@
 use Rattle.std.proofs.Common.{arith, ◌≡◌, ◌/◌, length, replicate, ap, sym, ◌∙◌}
 use Rattle.torus.specs.Bytes.{words}
 use Rattle.answers.specs.Answers.{number}
-use Rattle.answers.proofs.Laws.{after_refused, after_accepted}
+use Rattle.answers.proofs.Laws.{after_accepted}
 use Rattle.trgsw.specs.Parameters.{parameters, sample_size}
 use Rattle.trgsw.specs.External.{external_sample}
 use Rattle.gates.specs.Calls as Calls
@@ -10,25 +10,18 @@ use Rattle.gates.proofs.Accepted.{external_accepted}
 use Rattle.gates.proofs.Cleared.{cleared_made}
 use Rattle.gates.proofs.external.external_product.Goals as goal
 
-pub returns-then-fault-ne0 : goal.returns-then-fault-ne0
-unfolding Calls.external_product_out
-returns-then-fault-ne0 c =
-    let e = c.number-fault.ensures ∙ ap number c.external_product_answer.ensures in
-    (e, after_refused _ _ _ (λ z. c.if-fault-ne0.true (e ∙ z)))
-
 -- What holds of the arguments past the test.
 pub clear_words-requires : goal.clear_words-requires
 clear_words-requires c =
-    let fit = external_accepted _ (sym (c.number-fault.ensures ∙ ap number c.external_product_answer.ensures) ∙ c.if-fault-ne0.false) in
+    let fit = external_accepted _ (ap number (sym c.external_product_answer.ensures ∙ c.in_ok-ledger.was)) in
     omega (arith, fit.out_length)
 
 pub parameter_set-requires : goal.parameter_set-requires
-parameter_set-requires c =
-    (external_accepted _ (sym (c.number-fault.ensures ∙ ap number c.external_product_answer.ensures) ∙ c.if-fault-ne0.false)).scheme
+parameter_set-requires c = (external_accepted _ (ap number (sym c.external_product_answer.ensures ∙ c.in_ok-ledger.was))).scheme
 
 pub add_external-requires : goal.add_external-requires
 add_external-requires c =
-    let fit = external_accepted _ (sym (c.number-fault.ensures ∙ ap number c.external_product_answer.ensures) ∙ c.if-fault-ne0.false) in
+    let fit = external_accepted _ (ap number (sym c.external_product_answer.ensures ∙ c.in_ok-ledger.was)) in
     rw c.parameter_set.ensures (record {
       degree = fit.scheme.degree;
       gadget = fit.scheme.gadget;
@@ -41,11 +34,11 @@ pub returns : goal.returns
 unfolding Calls.external_product_out
 returns c =
     let s = c.args in
-    let p = parameters s.x in
-    let e = sym (c.number-fault.ensures ∙ ap number c.external_product_answer.ensures) ∙ c.if-fault-ne0.false in
+    let p = parameters s.lent.now.scheme in
+    let e = ap number (sym c.external_product_answer.ensures ∙ c.in_ok-ledger.was) in
     let fit = external_accepted _ e in
     let size : length s.out.now / 4 ≡ sample_size p = omega (arith, fit.out_length) in
     let cleared : words c.clear_words.new.out ≡ replicate (sample_size p) 0 = c.clear_words.ensures ∙ ap (λ n. replicate n 0) size in
-    let made : words c.add_external.new.out ≡ external_sample p (words s.block.now) (words s.sample.now) =
+    let made : words c.add_external.new.out ≡ external_sample p (words s.lent.now.block.now) (words s.lent.now.sample.now) =
     rw (sym c.parameter_set.ensures) (c.add_external.ensures ∙ cleared_made _ _ _ _ (rw c.parameter_set.ensures cleared)) in
-    (sym e, after_accepted _ (sample_size p) _ _ _ e (omega (arith, fit.out_length)) (λ i. (c.type_inv.out i).fits) made)
+    (sym c.in_ok-ledger.was ∙ c.external_product_answer.ensures, after_accepted _ (sample_size p) _ _ _ e (omega (arith, fit.out_length)) (λ i. (c.type_inv.out i).fits) made)

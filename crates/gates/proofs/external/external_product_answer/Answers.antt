@@ -1,59 +1,14 @@
--- `gates::external::external_product_answer` meets its contract. Assumes nothing.
-use Rattle.std.proofs.Common.{arith, ◌≡◌, ◌+◌, ap, sym, ◌∙◌}
-use Rattle.answers.specs.declared.Answer.TheVariants.{Accepted}
-use Rattle.answers.proofs.Laws.{stopped, went_on}
-use Rattle.trgsw.specs.Parameters.{parameters}
-use Rattle.trgsw.specs.External.{charge}
-use Rattle.trgsw.proofs.Told.{told_sized}
+-- `gates::external::external_product_answer` meets its contract: of amplitudes that pass their checks the sum fits. Assumes nothing.
+use Rattle.std.proofs.Common.{arith, sym}
+use Rattle.answers.proofs.Laws.{amplitude_held}
 use Rattle.trgsw.proofs.Charges.{charge_le}
-use Rattle.trgsw.proofs.Checked.{scheme_held, two_amplitudes}
-use Rattle.gates.specs.Inner.{product_lengths, product_amplitudes}
-use Rattle.gates.proofs.Accepted.{product_checks}
 use Rattle.gates.proofs.external.external_product_answer.Goals as goal
 
-pub returns-then-unlawful-ne0 : goal.returns-then-unlawful-ne0
-returns-then-unlawful-ne0 c = stopped _ _ _ c.refusal-unlawful.ensures c.if-unlawful-ne0.true ∙ product_checks _
-
-pub check_lengths-lengths-requires : goal.check_lengths-lengths-requires
-check_lengths-lengths-requires c =
-    rw c.parameter_set-p.ensures (told_sized c.args.x (scheme_held c.args.x (sym c.refusal-unlawful.ensures ∙ c.if-unlawful-ne0.false)))
-
-pub returns-then-lengths-ne0 : goal.returns-then-lengths-ne0
-returns-then-lengths-ne0 c =
-    let s = c.args in
-    let e : c.check_lengths-lengths.result ≡ product_lengths (parameters s.x) s.block.now s.sample.now s.out.now = cc in
-    stopped _ _ _ e c.if-lengths-ne0.true ∙ sym (went_on _ _ (sym c.refusal-unlawful.ensures ∙ c.if-unlawful-ne0.false)) ∙ product_checks _
-
-pub returns-then-amplitudes-ne0 : goal.returns-then-amplitudes-ne0
-returns-then-amplitudes-ne0 c =
-    let s = c.args in
-    let e : c.check_lengths-lengths.result ≡ product_lengths (parameters s.x) s.block.now s.sample.now s.out.now = cc in
-    let f : c.first-amplitudes.result ≡ product_amplitudes s.amplitude s.sample_amplitude = cc in
-    stopped _ _ _ f c.if-amplitudes-ne0.true ∙ sym (went_on _ _ (sym e ∙ c.if-lengths-ne0.false))
-    ∙ sym (went_on _ _ (sym c.refusal-unlawful.ensures ∙ c.if-unlawful-ne0.false)) ∙ product_checks _
-
 pub charge-requires : goal.charge-requires
-charge-requires c =
-    let s = c.args in
-    let f : c.first-amplitudes.result ≡ product_amplitudes s.amplitude s.sample_amplitude = cc in
-    let small = two_amplitudes s.amplitude s.sample_amplitude (sym f ∙ c.if-amplitudes-ne0.false) in
-    rw c.parameter_set-p.ensures (told_sized s.x (scheme_held s.x (sym c.refusal-unlawful.ensures ∙ c.if-unlawful-ne0.false)), small.0)
+charge-requires c = amplitude_held _ (sym c.in_ok-amplitude.ensures)
 
 pub overflow_add-bound : goal.overflow_add-bound
 overflow_add-bound c =
-    let s = c.args in
-    let f : c.first-amplitudes.result ≡ product_amplitudes s.amplitude s.sample_amplitude = cc in
-    let small = two_amplitudes s.amplitude s.sample_amplitude (sym f ∙ c.if-amplitudes-ne0.false) in
-    let sized = told_sized s.x (scheme_held s.x (sym c.refusal-unlawful.ensures ∙ c.if-unlawful-ne0.false)) in
-    let e : c.charge.result ≡ charge (parameters s.x) s.amplitude = cc in
-    omega (arith, e, charge_le (parameters s.x) sized s.amplitude small.0, small.1)
-
-pub returns : goal.returns
-returns c =
-    let s = c.args in
-    let e : c.check_lengths-lengths.result ≡ product_lengths (parameters s.x) s.block.now s.sample.now s.out.now = cc in
-    let f : c.first-amplitudes.result ≡ product_amplitudes s.amplitude s.sample_amplitude = cc in
-    let g : c.charge.result ≡ charge (parameters s.x) s.amplitude = cc in
-    ap (λ a. Accepted (record { bound = a + s.sample_amplitude; gates = 0 })) g
-    ∙ sym (went_on _ _ (sym f ∙ c.if-amplitudes-ne0.false)) ∙ sym (went_on _ _ (sym e ∙ c.if-lengths-ne0.false))
-    ∙ sym (went_on _ _ (sym c.refusal-unlawful.ensures ∙ c.if-unlawful-ne0.false)) ∙ product_checks _
+    let of_block = amplitude_held _ (sym c.in_ok-amplitude.ensures) in
+    let of_sample = amplitude_held _ (sym c.in_ok-amplitude-2.ensures) in
+    omega (arith, charge_le _ c.in_ok-p.p.sized _ of_block, of_block, of_sample, c.charge.ensures)

@@ -12,7 +12,7 @@ returns c =
     let d = c.number_at-d.ensures ∙ ap (λ k. get_or ws k 0) (c.depth_at.ensures.0 ∙ ap depth_at c.word_at.ensures) in
     rw (
       c.file_packing.ensures,
-      c.scheme_of.ensures,
+      c.new.ensures,
       c.header_number-n.ensures,
       c.header_number-g.ensures,
       c.header_number-l.ensures,

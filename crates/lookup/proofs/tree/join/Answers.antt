@@ -30,7 +30,7 @@ cmux_in_place-requires c =
     rw c.parameter_set.ensures (record {
       degree = ok.scheme.degree;
       gadget = ok.scheme.gadget;
-      block_length = omega (arith, c.block_size.ensures.0, length_chunk_at at (at + size) a.blocks.now (block_within a.i _ _ _ c.block_size.ensures.0 c.requires.3));
+      block_length = omega (arith, c.block_size.ensures.0, length_chunk_at at (at + size) a.lent.now.blocks.now (block_within a.i _ _ _ c.block_size.ensures.0 c.requires.3));
       x_length = omega (arith, c.requires.1, c.requires.2, length-take-le (own - 0) a.work.now (omega (arith, c.requires.2)));
       y_length = c.requires.1;
     })
@@ -38,14 +38,14 @@ cmux_in_place-requires c =
 pub returns : goal.returns
 returns c =
     let a = c.args in
-    let p = parameters a.x.scheme in
+    let p = parameters a.lent.now.numbers.scheme in
     let own = length a.sample.now in
     let size = 4 * c.block_size.result in
     let at = a.i * size in
-    let block = take (at + size - at) (drop at a.blocks.now) in
+    let block = take (at + size - at) (drop at a.lent.now.blocks.now) in
     let work = take (own - 0) (drop 0 a.work.now) in
-    let block_words : words block ≡ selector p a.i (words a.blocks.now) =
-    words_lent (a.i * block_size p) (block_size p) at (at + size - at) a.blocks.now
+    let block_words : words block ≡ selector p a.i (words a.lent.now.blocks.now) =
+    words_lent (a.i * block_size p) (block_size p) at (at + size - at) a.lent.now.blocks.now
     (omega (arith, ap (λ (n : ℕ). a.i * n) c.block_size.ensures.0)) (omega (arith, c.block_size.ensures.0)) in
     let work-words : words work ≡ take (sample_size p) (words a.work.now) =
     words_lent 0 (sample_size p) 0 (own - 0) a.work.now refl (omega (arith, c.requires.1)) in (

@@ -32,14 +32,13 @@ length_lent t n table h =
 pub write_lent-requires : goal.write_lent-requires
 write_lent-requires c =
     let a = c.args in
-    let x = a.x in
+    let x = a.x.numbers in
     let e = c.entry_words.ensures.0 in
     let part = lent x a.t _ a.table.now e in (
-      c.requires.0,
-      c.requires.1.sample_length,
-      length_lent a.t c.entry_words.result a.table.now (inside x a.t _ _ a.table.now e c.requires.1) ∙ ap (λ n. 4 * n) e,
-      λ is i l. subst (λ ws. get_or ws i 0 < x.M) (sym part) (class_below x (words a.table.now) c.requires.0 (c.requires.1.below is) (Table.entry_words x.visibility x) a.t i),
+      c.requires.sample_length,
+      length_lent a.t c.entry_words.result a.table.now (inside x a.t _ _ a.table.now e c.requires) ∙ ap (λ n. 4 * n) e,
+      λ is i l. subst (λ ws. get_or ws i 0 < x.M) (sym part) (class_below x (words a.table.now) a.x.lawful (c.requires.below is) (Table.entry_words x.visibility x) a.t i),
     )
 
 pub returns : goal.returns
-returns c = c.write_lent.ensures ∙ ap (Table.entry_sample c.args.x.visibility c.args.x) (lent c.args.x c.args.t _ c.args.table.now c.entry_words.ensures.0)
+returns c = c.write_lent.ensures ∙ ap (Table.entry_sample c.args.x.numbers.visibility c.args.x.numbers) (lent c.args.x.numbers c.args.t _ c.args.table.now c.entry_words.ensures.0)
