@@ -6,7 +6,8 @@
     tools/places.py --list [COMMIT] each place: point, pattern, file, line
 
 Each point has patterns: regular expressions over a line of crates/*/src/**/*.rt, or over a whole signature, from `fn` to the brace
-that opens the body, where the pattern begins with `sig:`.
+that opens the body, where the pattern begins with `sig:`. Two counts go by no name: `facts` are parts of a `requires` that three functions
+of a crate or more share, and `together` are functions that share three parameters or more, by name and type, with two others of their crate.
 """
 
 import re
@@ -32,7 +33,9 @@ PATTERNS = [
      r"\bfn (wide|copy|copy_words|clear|clear_words|put|put_decimal|smaller|larger|greater|one_unless_zero|power|pow2)\b"),
     # Facts and parameters that always travel together.
     (5, "a function of eight parameters or more", r"params:8"),
-    (5, "a fact that many contracts ask for",
+    (5, "a fact in the requires of three functions of a crate", "facts:3"),
+    (5, "three parameters that three functions of a crate share", "together:3"),
+    (5, "a fact for which there is a type",
      r"sig:requires \{[^}]*(\bLawful (p\.)?g|\bDegree n|\bReady p w v|\bTwiddles p n|\bTablesOf\b|\bOperands n|\bFactors n|\bLawfulNumbers x|Sample\.Key n k|\bClassNumber m)"),
     # Buffers with a length beside them.
     (6, "a buffer with a length beside it", r"^\s*pub (size|bytes|sample): (usize|\[u8)"),
@@ -65,10 +68,52 @@ def parameters(signature):
     return len([p for p in re.sub(r"<[^>]*>|\[[^\]]*\]", "", inside.group(1)).split(",") if p.strip()]) if inside else 0
 
 
+def conjuncts(signature):
+    """The parts of what a signature requires."""
+    inside = re.search(r"requires \{ (.*?) \}( requires| ensures|$)", signature)
+    if not inside:
+        return []
+    parts, deep = [""], 0
+    for word in re.split(r"( × |[()])", inside.group(1)):
+        deep += (word == "(") - (word == ")")
+        if word == " × " and deep <= 0:
+            parts.append("")
+        else:
+            parts[-1] += word
+    return [p.strip() for p in parts]
+
+
+def named(signature):
+    """The parameters of a signature, each with its type."""
+    inside = re.search(r"\((.*?)\)( ->|$| requires| ensures| where)", signature)
+    return [" ".join(p.split()) for p in inside.group(1).split(",") if ":" in p] if inside else []
+
+
+def shared(texts, least, items, size):
+    """Places whose signatures share `size` items or more, all the same, with `least` - 1 others of their crate."""
+    crates = {}
+    for name, text in texts:
+        for n, signature in signatures(text):
+            crates.setdefault(name.split("/")[1], []).append((name, n, frozenset(items(signature))))
+    for functions in crates.values():
+        for name, n, own in functions:
+            groups = [own & other for _, _, other in functions]
+            if any(sum(1 for _, _, other in functions if group <= other) >= least for group in groups if len(group) >= size):
+                yield name, n
+
+
 def places(commit):
     found = []
-    for name, text in sources(commit):
+    texts = sources(commit)
+    for point, what, pattern in PATTERNS:
+        if pattern.startswith("facts:"):
+            found += [(point, what, name, n) for name, n in shared(texts, int(pattern[6:]), conjuncts, 1)]
+        elif pattern.startswith("together:"):
+            found += [(point, what, name, n) for name, n in shared(texts, 3, named, int(pattern[9:]))]
+    for name, text in texts:
         for point, what, pattern in PATTERNS:
+            if pattern.startswith(("facts:", "together:")):
+                continue
             if pattern.startswith("sig:"):
                 lines = [n for n, s in signatures(text) if re.search(pattern[4:], s)]
             elif pattern.startswith("params:"):
