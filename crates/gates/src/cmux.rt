@@ -82,6 +82,7 @@ fn check_lengths(lent: &Lent, out: &[u8], p: Bounded) -> Checked
 
 // What cmux answers.
 #[tactic(auto, unfolding(crate::specs::Calls::cmux))]
+#[inline]
 pub fn cmux_answer(lent: &Lent, out: &[u8]) -> Answer
     ensures { result ≡ Calls.cmux (Calls.cmux_of lent.now out.now) }
 {
@@ -96,6 +97,7 @@ pub fn cmux_answer(lent: &Lent, out: &[u8]) -> Answer
 
 // The CMux of two samples, each within its declared amplitude: the one that the block's bit names.
 #[tactic(auto, unfolding(crate::specs::Calls::cmux_out, answers::specs::Answers::after))]
+#[inline]
 pub fn cmux(lent: &Lent, out: &mut [u8]) -> Answer
     ensures { (result ≡ Calls.cmux (Calls.cmux_of lent.now out.old))
         × (out.new ≡ Calls.cmux_out (Calls.cmux_of lent.now out.old)) }

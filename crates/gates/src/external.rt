@@ -23,6 +23,8 @@ pub struct Lent<'a> {
 }
 
 // To out, the external product of the block with x. `Fits` stays a clause, as in the CMux: it speaks of slices that are written.
+// Inlined, as the calls of the CMux are: at the smallest degrees handing a struct on takes as long as a part of the product.
+#[inline]
 pub fn add_external(out: &mut [u8], block: &[u8], x: &[u8], p: Parameters)
     requires { Inner.Fits p (length block.now) (length x.now) (length out.old) }
     ensures { words out.new ≡ polynomials p.N (suc p.k) (λ c i. W.add (part p.N (words out.old) c i)

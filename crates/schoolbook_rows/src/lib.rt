@@ -51,7 +51,9 @@ pub fn add_terms(out: &mut [u8], digits: &mut [u8], room: &mut [u32], terms: &Te
         words out.new ≡ add_rows t.n t.k (suc t.k * t.gadget.l) (row_digits t.n t.gadget.g t.gadget.l (words t.x.now))
         (row_part t.n t.k (words t.block.now)) (words out.old)) }
 {
-    for r in 0..terms.row_count() {
-        add_term(out, digits, room, terms, r);
+    // A copy, whose numbers stay in registers: the compiler isn't told that out is apart from what is lent.
+    let own = *terms;
+    for r in 0..own.row_count() {
+        add_term(out, digits, room, &own, r);
     }
 }
