@@ -15,7 +15,7 @@ use Rattle.answers.specs.Answers.{after}
 use Rattle.answers.proofs.Laws.{stopped, went_on, after_err}
 use Rattle.tables.specs.declared.Numbers.{Numbers}
 use Rattle.trgsw.specs.Parameters.{parameters, block_size}
-use Rattle.tables.specs.Numbers.{LawfulNumbers, table_size}
+use Rattle.tables.specs.Numbers.{table_size}
 use Rattle.lookup.specs.Job.{Job}
 use Rattle.lookup.specs.Calls.{lookup, lookup_sample}
 use Rattle.jobfile.specs.Layout.{largest_file, first_count, header_words}
@@ -30,10 +30,6 @@ use Rattle.jobfile.proofs.Passed.{Passes, begins_words, refusal_held}
 module _ (file : List ℕ) (x : Numbers) (e : file_refusal file ≡ passed) (h : x ≡ (read_job file).numbers) where
   ok : Passes file
   ok = refusal_held file e
-
-  -- They are lawful.
-  pub held_lawful : LawfulNumbers x
-  held_lawful = rw h ok.lawful
 
   -- The file has a first count.
   pub held_some : 4 ≤ length file

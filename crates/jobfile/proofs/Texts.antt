@@ -9,10 +9,11 @@ use lib.Dec.{leb}
 use lib.ListN.{length, take, drop}
 use borrow.Author.Tests.{lt-leb}
 use Rattle.torus.specs.Bytes.{words}
-use Rattle.std.specs.Prelude.{Ok, Err}
+use Rattle.std.specs.Prelude.{Result, Ok, Err, IfOk}
 use Rattle.answers.specs.Answers.{Answer, number, after}
 use Rattle.answers.specs.Checks.{passed}
 use Rattle.answers.specs.declared.Ledger.{Ledger}
+use Rattle.answers.specs.declared.Refusal.{Refusal}
 use Rattle.answers.specs.declared.Refusal.TheVariants as Refused
 use Rattle.answers.proofs.Laws.{before, after_written}
 use Rattle.trgsw.specs.Parameters.{masks}
@@ -22,7 +23,8 @@ use Rattle.report.specs.Report.{report, answer_lines}
 use Rattle.report.proofs.Lines.{report_refused}
 use Rattle.jobfile.specs.declared.layout.TheConstants.{SAMPLE_ROOM}
 use Rattle.jobfile.specs.Layout.{largest_file, first_count, header_words}
-use Rattle.jobfile.specs.Reader.{file_refusal, read_job, job_answer, job_sample}
+use Rattle.jobfile.specs.declared.Outcome.{Outcome}
+use Rattle.jobfile.specs.Reader.{file_refusal, read_job, job_answer, job_sample, Gives}
 use Rattle.jobfile.specs.Output.{output, Shows}
 use Rattle.jobfile.proofs.Passed.{refusal_held}
 
@@ -96,6 +98,12 @@ module _ (file : List ℕ) where
       output_refused (λ z. let five : ◌≡◌ {A = ℕ} 5 0 = sym (ap number e) ∙ z in omega arith) ∙ ap answer_lines e
 
 -- ---- what is shown of a file
+
+-- What the reader gives stands in its room.
+pub gives_within : (file : List ℕ) (r : Result Outcome Refusal) → Gives r (job_answer file) (job_sample file)
+    → IfOk r (λ x. length x.sample.items ≤ SAMPLE_ROOM)
+gives_within file (Ok x) t = rw t.1 (sample_size file).1
+gives_within file (Err r) t = tt
 
 -- The answer 5 is the output for every file that is too large.
 pub shows_long : (file mask body room : List ℕ) (size : ℕ) → largest_file < length file

@@ -1,5 +1,5 @@
 -- `report::Writer::report` meets its contract. Assumes nothing.
-use Rattle.std.proofs.Common.{ℕ, ◌≡◌, ◌≤◌, [], ◌∷◌, ap, arith}
+use Rattle.std.proofs.Common.{◌≡◌, ◌≤◌, [], ◌∷◌, ap, arith}
 use Rattle.answers.specs.Answers.{refusal_number, number, gates}
 use Rattle.answers.proofs.Laws.{number_some}
 use Rattle.report.specs.Text.{ascii}
