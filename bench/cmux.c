@@ -15,7 +15,7 @@ static uint32_t sample0[2 * N], sample1[2 * N], room[3 * N], out[2 * N];
 static void library(const void *with)
 {
     (void)with;
-    if (cikenuma_cmux(N, G, L, 1, 1, 1, SLICE(blocks[0], 4 * L * N), SLICE(sample0, 2 * N), SLICE(sample1, 2 * N),
+    if (cikenuma_cmux(N, G, L, W, 1, 1, 1, SLICE(blocks[0], 4 * L * N), SLICE(sample0, 2 * N), SLICE(sample1, 2 * N),
                       SLICE(out, 2 * N)) != 0)
         exit(1);
 }

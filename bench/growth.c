@@ -55,8 +55,8 @@ static void library_cmux(const void *with)
 {
     const struct size *size = with;
     size_t n = size->n;
-    if (cikenuma_cmux(n, size->g, size->l, 1, 1, 1, SLICE(blocks, 4 * size->l * n), SLICE(sample0, 2 * n), SLICE(sample1, 2 * n),
-                      SLICE(out, 2 * n)) != 0)
+    if (cikenuma_cmux(n, size->g, size->l, n, 1, 1, 1, SLICE(blocks, 4 * size->l * n), SLICE(sample0, 2 * n),
+                      SLICE(sample1, 2 * n), SLICE(out, 2 * n)) != 0)
         exit(1);
 }
 
@@ -85,7 +85,7 @@ static void library_lookup(const void *with)
 {
     const struct size *size = with;
     size_t n = size->n, d = size->d;
-    if (cikenuma_lookup(n, size->g, size->l, CLASSES, n, d, SLICE(blocks, d * 4 * size->l * n), SLICE(amplitudes, d),
+    if (cikenuma_lookup(n, size->g, size->l, n, CLASSES, n, d, SLICE(blocks, d * 4 * size->l * n), SLICE(amplitudes, d),
                         SLICE(classes, n << d), SLICE(out, 2 * n), SLICE(work, 2 * n * (d + 1))) != 0)
         exit(1);
 }
@@ -94,8 +94,9 @@ static void library_vertical(const void *with)
 {
     const struct size *size = with;
     size_t n = size->n, d = size->d;
-    if (cikenuma_lookup_vertical(n, size->g, size->l, CLASSES, 1, d, SLICE(blocks, d * 4 * size->l * n), SLICE(amplitudes, d),
-                                 SLICE(classes, (size_t)1 << d), SLICE(out, 2 * n), SLICE(work, 2 * n * (d + 1))) != 0)
+    if (cikenuma_lookup_vertical(n, size->g, size->l, n, CLASSES, 1, d, SLICE(blocks, d * 4 * size->l * n),
+                                 SLICE(amplitudes, d), SLICE(classes, (size_t)1 << d), SLICE(out, 2 * n),
+                                 SLICE(work, 2 * n * (d + 1))) != 0)
         exit(1);
 }
 

@@ -17,7 +17,7 @@ static uint32_t out[2 * N], work[2 * N * (CELLS_D + 1)];
 
 /* A call and the sister that tells its gates take the same arguments; what stands for the dots is the table. */
 #define LOOKUP(call, s, d, ...) \
-    call(N, G, L, M, s, d, SLICE(blocks, (d) * 4 * L * N), SLICE(amplitudes, d), __VA_ARGS__, SLICE(out, 2 * N), \
+    call(N, G, L, W, M, s, d, SLICE(blocks, (d) * 4 * L * N), SLICE(amplitudes, d), __VA_ARGS__, SLICE(out, 2 * N), \
          SLICE(work, 2 * N * ((d) + 1)))
 #define HORIZONTAL(call) LOOKUP(call, S, D, SLICE(classes, S << D))
 #define VERTICAL(call) LOOKUP(call, 1, CELLS_D, SLICE(classes, CELLS))

@@ -20,7 +20,7 @@ static uint32_t out[2 * N], work[2 * N * (CELLS_D + 1)];
 static void library_horizontal(const void *with)
 {
     (void)with;
-    if (cikenuma_lookup(N, G, L, M, S, D, SLICE(blocks, D * 4 * L * N), SLICE(amplitudes, D), SLICE(classes, S << D),
+    if (cikenuma_lookup(N, G, L, W, M, S, D, SLICE(blocks, D * 4 * L * N), SLICE(amplitudes, D), SLICE(classes, S << D),
                         SLICE(out, 2 * N), SLICE(work, 2 * N * (D + 1))) != 0)
         exit(1);
 }
@@ -28,7 +28,7 @@ static void library_horizontal(const void *with)
 static void library_vertical(const void *with)
 {
     (void)with;
-    if (cikenuma_lookup_vertical(N, G, L, M, 1, CELLS_D, SLICE(blocks, CELLS_D * 4 * L * N), SLICE(amplitudes, CELLS_D),
+    if (cikenuma_lookup_vertical(N, G, L, W, M, 1, CELLS_D, SLICE(blocks, CELLS_D * 4 * L * N), SLICE(amplitudes, CELLS_D),
                                  SLICE(classes, 1 << CELLS_D), SLICE(out, 2 * N), SLICE(work, 2 * N * (CELLS_D + 1))) != 0)
         exit(1);
 }

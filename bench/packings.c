@@ -13,13 +13,13 @@ static uint32_t quarters[4][2 * N], halves[2][2 * N], out[2 * N], work[2 * N * (
 
 /* A call and the sister that tells its gates take the same arguments. */
 #define VERTICAL(call) \
-    call(N, G, L, M, 1, CELLS_D, SLICE(blocks, CELLS_D * 4 * L * N), SLICE(amplitudes, CELLS_D), SLICE(classes, CELLS), \
+    call(N, G, L, W, M, 1, CELLS_D, SLICE(blocks, CELLS_D * 4 * L * N), SLICE(amplitudes, CELLS_D), SLICE(classes, CELLS), \
          SLICE(out, 2 * N), SLICE(work, 2 * N * (CELLS_D + 1)))
 #define HORIZONTAL(call, t, result) \
-    call(N, G, L, M, 1, D, SLICE(blocks, D * 4 * L * N), SLICE(amplitudes, D), SLICE(classes + (t) * QUARTER, QUARTER), \
+    call(N, G, L, W, M, 1, D, SLICE(blocks, D * 4 * L * N), SLICE(amplitudes, D), SLICE(classes + (t) * QUARTER, QUARTER), \
          SLICE(result, 2 * N), SLICE(work, 2 * N * (D + 1)))
 #define CMUX(call, selector, pair, result) \
-    call(N, G, L, 1, 1, 1, SLICE(blocks[selector], 4 * L * N), SLICE((pair)[0], 2 * N), SLICE((pair)[1], 2 * N), \
+    call(N, G, L, W, 1, 1, 1, SLICE(blocks[selector], 4 * L * N), SLICE((pair)[0], 2 * N), SLICE((pair)[1], 2 * N), \
          SLICE(result, 2 * N))
 
 static void vertical(const void *with)

@@ -64,7 +64,7 @@ static uint32_t judge_sections(const struct job *job, size_t length)
     return 0;
 }
 
-/* The sum of the charges. */
+/* The sum of the charges. A job file declares no weight: it means n, that of any key. */
 static uint64_t noise_bound(const struct job *job)
 {
     uint64_t n = job->n, precision = job->g * job->l < 32 ? UINT64_C(1) << (31 - job->g * job->l) : 0, bound = 0;

@@ -61,6 +61,7 @@ degree a CMux uses it only where its samples differ in few words.
 
 Sizes, but for `ratejob`: N = 1,024, g = 8, L = 2, M = 4, s = 1,024. The lookup has 10 selectors, so 1,024 entries and 1,023
 CMuxes. The vertical lookup is in the vertical packing, with s = 1 and 12 selectors: 4,096 entries in four samples, and 13 CMuxes.
+The declared weight W is N, as any key allows; it goes into the bound alone.
 In every call the library tests all arguments, for instance that key words are 0 or 1. The calls in C test nothing; `ratejob` in C
 tests the whole file. The job files:
 

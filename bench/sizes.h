@@ -5,8 +5,8 @@
 #include <stddef.h>
 #include <stdint.h>
 
-/* Degree, gadget, number of classes, classes in an entry, selectors. */
-enum { N = 1024, G = 8, L = 2, M = 4, S = N, D = 10 };
+/* Degree, gadget, declared weight, number of classes, classes in an entry, selectors. The weight is that of any key. */
+enum { N = 1024, G = 8, L = 2, W = N, M = 4, S = N, D = 10 };
 
 /* A table of cells, one class in each: its selectors, and how many of them rotate in the vertical packing, N being 2^10. */
 enum { CELLS_D = 12, ROTATIONS = 10 };

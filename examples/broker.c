@@ -1,6 +1,7 @@
 /*
  * The lease of a van, as a brokers' portal works it. An applicant answers four questions, the broker encrypts the answers bit by
- * bit, an evaluator without the key looks them up in a lessor's table, and the broker decrypts three classes.
+ * bit, an evaluator without the key looks them up in a lessor's table, and the broker decrypts three classes. Then the same request
+ * is looked up once more, with the weight of the broker's key in place of N: its bound is lower, and more classes pass.
  *
  *   make -C examples run
  */
@@ -43,6 +44,18 @@ static void evaluate(const struct request *request, const struct table *table, s
 }
 /* to here. */
 
+/*
+ * The weight of the broker's key: how many of its words are 1. The broker may declare any W from there up to N. With a smaller one the
+ * bound would say nothing, and nobody would notice: who looks up has no key to compare W with.
+ */
+static uint64_t weight(const struct broker *broker)
+{
+    uint64_t ones = 0;
+    for (size_t i = 0; i < N; i++)
+        ones += get(broker->key, i);
+    return ones;
+}
+
 /* What can be done about answer 9. The bound doesn't depend on M, and the limit does. */
 static void advise(uint64_t bound, uint64_t M)
 {
@@ -78,6 +91,15 @@ int main(void)
     /* 16 classes are accepted, 32 lie too close together for the noise, and 8 are fewer than the table needs. */
     static const uint64_t class_numbers[] = {16, 32, 8};
     for (size_t i = 0; i < 3; i++) {
+        table.M = class_numbers[i];
+        serve(&broker, &request, &table);
+    }
+
+    /* W alone is another, and with it the bound, which leaves room for 32 classes. */
+    request.W = weight(&broker);
+    printf("\nThese bounds hold for every key, with W = N = %d. The broker's has %" PRIu64 " ones, and it declares that as W.\n",
+        N, request.W);
+    for (size_t i = 0; i < 2; i++) {
         table.M = class_numbers[i];
         serve(&broker, &request, &table);
     }

@@ -33,8 +33,8 @@ struct hidden {
 #define ENCRYPT(call) \
     call(N, hidden->M, N, key, WORD * N, LEND(lessor->mask), LEND(lessor->errors), cells, WORD * N, sample, SAMPLE)
 #define LOOKUP_HIDDEN(call) \
-    call(N, G, L, hidden->M, S, D, LEND(request->blocks), LEND(request->amplitudes), LEND(hidden->samples), \
-        LEND(hidden->amplitudes), LEND(reply->sample), LEND(work))
+    call(N, G, L, request->W, hidden->M, S, D, LEND(request->blocks), LEND(request->amplitudes), \
+        LEND(hidden->samples), LEND(hidden->amplitudes), LEND(reply->sample), LEND(work))
 
 /*
  * The lessor encrypts sample t, N consecutive cells at once, under the key of whoever is to decrypt. The amplitude to declare is the

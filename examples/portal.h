@@ -29,8 +29,9 @@ struct broker {
     uint8_t key[WORD * N], masks[WORD * ROWS], errors[WORD * ROWS];
 };
 
-/* What the broker sends: the selectors' blocks, and the amplitude of each. */
+/* What the broker sends: how many ones its key has at most, the selectors' blocks, and the amplitude of each. */
 struct request {
+    uint64_t W;
     uint8_t blocks[D * BLOCK], amplitudes[WORD * D];
 };
 
@@ -77,18 +78,21 @@ static unsigned entry_of(const struct question *questions, size_t count, const u
 static const char *reason(uint32_t answer)
 {
     static const char *const reasons[] = {
-        "accepted",
-        "N is not a power of two from 1 to 1,024",
-        "g is not 1 to 16, L is 0, or g*L is above 32",
-        "M is not a power of two from 2 to 65,536",
-        "an entry has too few or too many classes, there are too many selectors, or the position is not below N",
-        "a slice doesn't have its exact length",
-        "an amplitude is above 2^31",
-        "a class is not below M, or a selector bit is above 1",
-        "a key word is above 1",
-        "the bound is 2^31/M or more, so noise could change a class",
+        [0] = "accepted",
+        [1] = "N is not a power of two from 1 to 1,024",
+        [2] = "g is not 1 to 16, L is 0, or g*L is above 32",
+        [12] = "the declared weight of the key is above N",
+        [3] = "M is not a power of two from 2 to 65,536",
+        [4] = "an entry has too few or too many classes, there are too many selectors, or the position is not below N",
+        [5] = "a slice doesn't have its exact length",
+        [6] = "an amplitude is above 2^31",
+        [7] = "a class is not below M, or a selector bit is above 1",
+        [8] = "a key word is above 1",
+        [9] = "the bound is 2^31/M or more, so noise could change a class",
     };
-    return answer < sizeof reasons / sizeof *reasons ? reasons[answer] : "a number that this program doesn't know";
+    if (answer < sizeof reasons / sizeof *reasons && reasons[answer] != NULL)
+        return reasons[answer];
+    return "a number that this program doesn't know";
 }
 
 /* For steps that are refused only where the program is wrong. */
@@ -124,8 +128,8 @@ static void draw_rows(struct broker *broker)
 #define SELECTOR(call) \
     call(N, G, L, bit, LEND(broker->key), LEND(broker->masks), LEND(broker->errors), block, BLOCK)
 #define LOOKUP(call) \
-    call(N, G, L, table->M, S, D, LEND(request->blocks), LEND(request->amplitudes), LEND(table->classes), \
-        LEND(reply->sample), LEND(work))
+    call(N, G, L, request->W, table->M, S, D, LEND(request->blocks), LEND(request->amplitudes), \
+        LEND(table->classes), LEND(reply->sample), LEND(work))
 
 /* The broker encrypts a bit as selector i. The amplitude to declare is the bound that the encryption reports. */
 static void encrypt_bit(struct broker *broker, size_t i, uint64_t bit, struct request *request)
@@ -144,9 +148,10 @@ static void decrypt(const struct broker *broker, uint64_t M, const struct reply 
 }
 /* to here. */
 
-/* The bits of an entry's number, one in each selector. */
+/* The bits of an entry's number, one in each selector. No key has more ones than words, so W = N is true of every key. */
 static void encrypt_entry(struct broker *broker, unsigned h, struct request *request)
 {
+    request->W = N;
     for (size_t i = 0; i < D; i++)
         encrypt_bit(broker, i, h >> i & 1, request);
 }

@@ -20,6 +20,14 @@
  * Polynomial      N words, constant coefficient first. Products are taken modulo X^N + 1: a term that
  *                 passes the end returns with its sign changed.
  * Key             a polynomial K whose words are 0 or 1.
+ * Weight          of a key: how many of its words are 1. A call that has a charge (below) takes W, by
+ *                 which the caller declares that the key of its blocks has at most W ones. W is at
+ *                 most N, and to declare N is always safe, since a key has N words. A smaller W makes
+ *                 the charge smaller and does nothing else: what an accepted call writes, and its
+ *                 gates, don't depend on it. No call compares W with a key, since none that takes W
+ *                 sees one. If the key has more ones than W, the reported bound says nothing: noise
+ *                 may be above it, and what is accepted may decrypt to a wrong class with no sign of
+ *                 it.
  * Packed sample   a TRLWE sample: a mask polynomial a, then a body polynomial b; 2*N words. Its phase
  *                 is the polynomial b - a*K.
  * Scalar sample   an LWE sample: N mask words, then one body word; N + 1 words. Its phase is the body
@@ -41,8 +49,8 @@
  *                 it should be: -m*h_j*K for row j (j = 1 to L), and m*h_j for row L + j.
  * Amplitude       what the caller declares of a block or a sample: the block holds its bit within it,
  *                 or it is the sample's noise bound. Only its size is tested.
- * Charge          what an external product or a CMux adds to the noise, with a block of amplitude A:
- *                 2*L*N*2^(g-1)*A + (1 + N)*E.
+ * Charge          what an external product or a CMux adds to the noise, with a block of amplitude A
+ *                 under a key of at most W ones: 2*L*N*2^(g-1)*A + (1 + W)*E.
  * Table           2^d entries of s classes each, in the order of their numbers, all classes of an entry
  *                 side by side. The selectors name the entry whose number has the bit of selector i
  *                 as its binary digit i, digit 0 the lowest. The exact encoding of an entry is the
@@ -73,8 +81,9 @@
  * nothing is read or written. A slice that a call writes overlaps no other slice lent to that call.
  * The library tests neither, and takes both as given.
  *
- * Each call returns one of the numbers below. It checks what applies to it in rising number, so with
- * several faults the lowest number is returned. A refusal (any number but 0) writes nothing.
+ * Each call returns one of the numbers below. It checks what applies to it in the order 1, 2, 12, 3, 4,
+ * 5, 6, 7, 8, 9, so with several faults the one that stands first there is returned. A refusal (any
+ * number but 0) writes nothing.
  *
  * Each call has two sisters, NAME_bound and NAME_gates. They take the same arguments, write nothing,
  * and return the noise bound and the number of gates that the call reports: gates are 0 in every
@@ -83,13 +92,14 @@
  * No call, and no sister, uses more than 64 KiB of stack.
  *
  *
- * RETURNED NUMBERS
+ * RETURNED NUMBERS, in the order of the checks
  *
  *   number   bound        when
  *   ------   ----------   ----------------------------------------------------------------
  *     0      as defined   accepted
  *     1      0            N is not a power of two from 1 to 1,024
  *     2      0            g is not 1 to 16, L is 0, or g*L is above 32
+ *    12      0            W is above N
  *     3      0            M is not a power of two from 2 to 65,536
  *     4      0            s is 0 or above N; position p is not below N; d is above 10; but in the
  *                         vertical packing: s is not 1, or d is above 16
@@ -269,6 +279,7 @@ uint64_t cikenuma_encrypt_selector_gates(uint64_t N, uint64_t g, uint64_t L, uin
  *   N                  degree
  *   g                  the gadget's base is 2^g
  *   L                  how many digits the gadget has
+ *   W                  how many ones the key has at most, 0 to N
  *   amplitude          of the block, at most 2^31
  *   sample_amplitude   of the sample, at most 2^31
  *   block              4*L*N words
@@ -276,25 +287,25 @@ uint64_t cikenuma_encrypt_selector_gates(uint64_t N, uint64_t g, uint64_t L, uin
  *   out                2*N words, written: the sum over the rows of digit polynomial times row. Digits
  *                      1 to L of the mask go with rows 1 to L, those of the body with the last L.
  *
- * Refusals, in order: 1, 2, 5, 6.
- * Bound: the charge plus sample_amplitude. If both amplitudes hold, no coefficient of out's phase is
- * farther than this from the bit times the sample's message. There is no limit: compare it with 2^31/M
- * before you decrypt.
+ * Refusals, in order: 1, 2, 12, 5, 6.
+ * Bound: the charge plus sample_amplitude. If both amplitudes hold under a key of at most W ones, no
+ * coefficient of out's phase is farther than this from the bit times the sample's message. There is no
+ * limit: compare it with 2^31/M before you decrypt.
  * Gates: 0.
  */
-uint32_t cikenuma_external_product(uint64_t N, uint64_t g, uint64_t L,
+uint32_t cikenuma_external_product(uint64_t N, uint64_t g, uint64_t L, uint64_t W,
                                    uint64_t amplitude, uint64_t sample_amplitude,
                                    const uint8_t *block, size_t block_length,
                                    const uint8_t *sample, size_t sample_length,
                                    uint8_t *out, size_t out_length);
 
-uint64_t cikenuma_external_product_bound(uint64_t N, uint64_t g, uint64_t L,
+uint64_t cikenuma_external_product_bound(uint64_t N, uint64_t g, uint64_t L, uint64_t W,
                                          uint64_t amplitude, uint64_t sample_amplitude,
                                          const uint8_t *block, size_t block_length,
                                          const uint8_t *sample, size_t sample_length,
                                          const uint8_t *out, size_t out_length);
 
-uint64_t cikenuma_external_product_gates(uint64_t N, uint64_t g, uint64_t L,
+uint64_t cikenuma_external_product_gates(uint64_t N, uint64_t g, uint64_t L, uint64_t W,
                                          uint64_t amplitude, uint64_t sample_amplitude,
                                          const uint8_t *block, size_t block_length,
                                          const uint8_t *sample, size_t sample_length,
@@ -306,6 +317,7 @@ uint64_t cikenuma_external_product_gates(uint64_t N, uint64_t g, uint64_t L,
  *   N            degree
  *   g            the gadget's base is 2^g
  *   L            how many digits the gadget has
+ *   W            how many ones the key has at most, 0 to N
  *   amplitude    of the block, at most 2^31
  *   amplitude0   of sample0, at most 2^31
  *   amplitude1   of sample1, at most 2^31
@@ -315,27 +327,27 @@ uint64_t cikenuma_external_product_gates(uint64_t N, uint64_t g, uint64_t L,
  *   out          2*N words, written: sample0 plus the external product of the block with
  *                sample1 - sample0
  *
- * Refusals, in order: 1, 2, 5, 6.
- * Bound: the greater of amplitude0 and amplitude1, plus the charge. If all three amplitudes hold, no
- * coefficient of out's phase is farther than this from the picked sample's message. There is no limit:
- * compare it with 2^31/M before you decrypt.
+ * Refusals, in order: 1, 2, 12, 5, 6.
+ * Bound: the greater of amplitude0 and amplitude1, plus the charge. If all three amplitudes hold under
+ * a key of at most W ones, no coefficient of out's phase is farther than this from the picked sample's
+ * message. There is no limit: compare it with 2^31/M before you decrypt.
  * Gates: 1.
  */
-uint32_t cikenuma_cmux(uint64_t N, uint64_t g, uint64_t L,
+uint32_t cikenuma_cmux(uint64_t N, uint64_t g, uint64_t L, uint64_t W,
                        uint64_t amplitude, uint64_t amplitude0, uint64_t amplitude1,
                        const uint8_t *block, size_t block_length,
                        const uint8_t *sample0, size_t sample0_length,
                        const uint8_t *sample1, size_t sample1_length,
                        uint8_t *out, size_t out_length);
 
-uint64_t cikenuma_cmux_bound(uint64_t N, uint64_t g, uint64_t L,
+uint64_t cikenuma_cmux_bound(uint64_t N, uint64_t g, uint64_t L, uint64_t W,
                              uint64_t amplitude, uint64_t amplitude0, uint64_t amplitude1,
                              const uint8_t *block, size_t block_length,
                              const uint8_t *sample0, size_t sample0_length,
                              const uint8_t *sample1, size_t sample1_length,
                              const uint8_t *out, size_t out_length);
 
-uint64_t cikenuma_cmux_gates(uint64_t N, uint64_t g, uint64_t L,
+uint64_t cikenuma_cmux_gates(uint64_t N, uint64_t g, uint64_t L, uint64_t W,
                              uint64_t amplitude, uint64_t amplitude0, uint64_t amplitude1,
                              const uint8_t *block, size_t block_length,
                              const uint8_t *sample0, size_t sample0_length,
@@ -348,6 +360,7 @@ uint64_t cikenuma_cmux_gates(uint64_t N, uint64_t g, uint64_t L,
  *   N            degree
  *   g            the gadget's base is 2^g
  *   L            how many digits the gadget has
+ *   W            how many ones the key has at most, 0 to N
  *   M            number of classes
  *   s            how many classes an entry has, 1 to N
  *   d            how many selectors, 0 to 10
@@ -362,31 +375,34 @@ uint64_t cikenuma_cmux_gates(uint64_t N, uint64_t g, uint64_t L,
  *   work         2*N*(d + 1) words, room for the tree: what it holds before is of no account, and
  *                afterwards all of it is 0
  *
- * Refusals, in order: 1, 2, 3, 4, 5, 6, 7, 9. With d = 0 all arguments are tested as with any other d;
- * blocks and amplitudes then have length 0.
+ * Refusals, in order: 1, 2, 12, 3, 4, 5, 6, 7, 9. With d = 0 all arguments are tested as with any other
+ * d; blocks and amplitudes then have length 0.
  * Bound: the sum of the d charges, a selector's charge going by its amplitude; 0 if d is 0. From 2^31/M
  * on the call refuses with 9, before anything is written, and the whole sum is still reported.
  * What it means: if the call returns 0, and each block holds its bit within its amplitude under a key
- * of 0s and 1s, then no coefficient of the sample's phase under that key, of all N, is farther than
- * the bound from the exact encoding of the entry that the bits name. And cikenuma_decrypt_classes with
- * the same N, M and s and that key gives this entry's classes.
+ * of 0s and 1s with at most W ones, then no coefficient of the sample's phase under that key, of all N,
+ * is farther than the bound from the exact encoding of the entry that the bits name. And
+ * cikenuma_decrypt_classes with the same N, M and s and that key gives this entry's classes.
  * Gates: 2^d - 1.
  */
-uint32_t cikenuma_lookup(uint64_t N, uint64_t g, uint64_t L, uint64_t M, uint64_t s, uint64_t d,
+uint32_t cikenuma_lookup(uint64_t N, uint64_t g, uint64_t L, uint64_t W,
+                         uint64_t M, uint64_t s, uint64_t d,
                          const uint8_t *blocks, size_t blocks_length,
                          const uint8_t *amplitudes, size_t amplitudes_length,
                          const uint8_t *classes, size_t classes_length,
                          uint8_t *sample, size_t sample_length,
                          uint8_t *work, size_t work_length);
 
-uint64_t cikenuma_lookup_bound(uint64_t N, uint64_t g, uint64_t L, uint64_t M, uint64_t s, uint64_t d,
+uint64_t cikenuma_lookup_bound(uint64_t N, uint64_t g, uint64_t L, uint64_t W,
+                               uint64_t M, uint64_t s, uint64_t d,
                                const uint8_t *blocks, size_t blocks_length,
                                const uint8_t *amplitudes, size_t amplitudes_length,
                                const uint8_t *classes, size_t classes_length,
                                const uint8_t *sample, size_t sample_length,
                                const uint8_t *work, size_t work_length);
 
-uint64_t cikenuma_lookup_gates(uint64_t N, uint64_t g, uint64_t L, uint64_t M, uint64_t s, uint64_t d,
+uint64_t cikenuma_lookup_gates(uint64_t N, uint64_t g, uint64_t L, uint64_t W,
+                               uint64_t M, uint64_t s, uint64_t d,
                                const uint8_t *blocks, size_t blocks_length,
                                const uint8_t *amplitudes, size_t amplitudes_length,
                                const uint8_t *classes, size_t classes_length,
@@ -409,6 +425,7 @@ uint64_t cikenuma_lookup_gates(uint64_t N, uint64_t g, uint64_t L, uint64_t M, u
  *   N            degree
  *   g            the gadget's base is 2^g
  *   L            how many digits the gadget has
+ *   W            how many ones the key has at most, 0 to N
  *   M            number of classes
  *   s            how many classes an entry has, which is 1
  *   d            how many selectors, 0 to 16
@@ -425,34 +442,35 @@ uint64_t cikenuma_lookup_gates(uint64_t N, uint64_t g, uint64_t L, uint64_t M, u
  *   work         2*N*(d + 1) words, room for the CMuxes: what it holds before is of no account, and
  *                afterwards all of it is 0
  *
- * Refusals, in order: 1, 2, 3, 4, 5, 6, 7, 9. With d = 0 all arguments are tested as with any other d;
- * blocks and amplitudes then have length 0.
+ * Refusals, in order: 1, 2, 12, 3, 4, 5, 6, 7, 9. With d = 0 all arguments are tested as with any other
+ * d; blocks and amplitudes then have length 0.
  * Bound: the sum of the d charges, a selector's charge going by its amplitude; 0 if d is 0. From 2^31/M
  * on the call refuses with 9, before anything is written, and the whole sum is still reported.
  * What it means: if the call returns 0, and each block holds its bit within its amplitude under a key
- * of 0s and 1s, then coefficient 0 of the sample's phase under that key is no farther than the bound
- * from the encoded class of the entry that the bits name. And cikenuma_decrypt_classes with the same N
- * and M, with s = 1 and that key gives this class. Of the other coefficients nothing is said.
+ * of 0s and 1s with at most W ones, then coefficient 0 of the sample's phase under that key is no
+ * farther than the bound from the encoded class of the entry that the bits name. And
+ * cikenuma_decrypt_classes with the same N and M, with s = 1 and that key gives this class. Of the other
+ * coefficients nothing is said.
  * Gates: 2^(d-r) - 1 + r.
  */
-uint32_t cikenuma_lookup_vertical(uint64_t N, uint64_t g, uint64_t L, uint64_t M,
-                                  uint64_t s, uint64_t d,
+uint32_t cikenuma_lookup_vertical(uint64_t N, uint64_t g, uint64_t L, uint64_t W,
+                                  uint64_t M, uint64_t s, uint64_t d,
                                   const uint8_t *blocks, size_t blocks_length,
                                   const uint8_t *amplitudes, size_t amplitudes_length,
                                   const uint8_t *classes, size_t classes_length,
                                   uint8_t *sample, size_t sample_length,
                                   uint8_t *work, size_t work_length);
 
-uint64_t cikenuma_lookup_vertical_bound(uint64_t N, uint64_t g, uint64_t L, uint64_t M,
-                                        uint64_t s, uint64_t d,
+uint64_t cikenuma_lookup_vertical_bound(uint64_t N, uint64_t g, uint64_t L, uint64_t W,
+                                        uint64_t M, uint64_t s, uint64_t d,
                                         const uint8_t *blocks, size_t blocks_length,
                                         const uint8_t *amplitudes, size_t amplitudes_length,
                                         const uint8_t *classes, size_t classes_length,
                                         const uint8_t *sample, size_t sample_length,
                                         const uint8_t *work, size_t work_length);
 
-uint64_t cikenuma_lookup_vertical_gates(uint64_t N, uint64_t g, uint64_t L, uint64_t M,
-                                        uint64_t s, uint64_t d,
+uint64_t cikenuma_lookup_vertical_gates(uint64_t N, uint64_t g, uint64_t L, uint64_t W,
+                                        uint64_t M, uint64_t s, uint64_t d,
                                         const uint8_t *blocks, size_t blocks_length,
                                         const uint8_t *amplitudes, size_t amplitudes_length,
                                         const uint8_t *classes, size_t classes_length,
@@ -470,6 +488,7 @@ uint64_t cikenuma_lookup_vertical_gates(uint64_t N, uint64_t g, uint64_t L, uint
  *   N            degree
  *   g            the gadget's base is 2^g
  *   L            how many digits the gadget has
+ *   W            how many ones the key has at most, 0 to N
  *   M            number of classes
  *   s            how many classes an entry has, 1 to N: the samples don't show it
  *   d            how many selectors, 0 to 10
@@ -483,20 +502,21 @@ uint64_t cikenuma_lookup_vertical_gates(uint64_t N, uint64_t g, uint64_t L, uint
  *   work         2*N*(d + 1) words, room for the tree: what it holds before is of no account, and
  *                afterwards all of it is 0
  *
- * Refusals, in order: 1, 2, 3, 4, 5, 6, 9; 6 goes by both slices of amplitudes. With d = 0 all arguments
- * are tested as with any other d; blocks and amplitudes then have length 0.
+ * Refusals, in order: 1, 2, 12, 3, 4, 5, 6, 9; 6 goes by both slices of amplitudes. With d = 0 all
+ * arguments are tested as with any other d; blocks and amplitudes then have length 0.
  * Bound: the greatest amplitude of all samples plus the sum of the d charges, a selector's charge going
  * by its amplitude; the sample's amplitude alone if d is 0. From 2^31/M on the call refuses with 9, also
  * with d = 0, before anything is written, and the whole bound is still reported.
- * What it means: if the call returns 0, and under a key of 0s and 1s each block holds its bit within its
- * amplitude, and no coefficient of any sample's phase, of all N, is farther than the sample's amplitude
- * from the exact encoding of its entry, then no coefficient of the written sample's phase under that key
- * is farther than the bound from the exact encoding of the entry that the bits name. And
- * cikenuma_decrypt_classes with the same N, M and s and that key gives this entry's classes.
+ * What it means: if the call returns 0, and under a key of 0s and 1s with at most W ones each block
+ * holds its bit within its amplitude, and no coefficient of any sample's phase, of all N, is farther
+ * than the sample's amplitude from the exact encoding of its entry, then no coefficient of the written
+ * sample's phase under that key is farther than the bound from the exact encoding of the entry that the
+ * bits name. And cikenuma_decrypt_classes with the same N, M and s and that key gives this entry's
+ * classes.
  * Gates: 2^d - 1.
  */
-uint32_t cikenuma_lookup_hidden(uint64_t N, uint64_t g, uint64_t L, uint64_t M,
-                                uint64_t s, uint64_t d,
+uint32_t cikenuma_lookup_hidden(uint64_t N, uint64_t g, uint64_t L, uint64_t W,
+                                uint64_t M, uint64_t s, uint64_t d,
                                 const uint8_t *blocks, size_t blocks_length,
                                 const uint8_t *amplitudes, size_t amplitudes_length,
                                 const uint8_t *samples, size_t samples_length,
@@ -504,8 +524,8 @@ uint32_t cikenuma_lookup_hidden(uint64_t N, uint64_t g, uint64_t L, uint64_t M,
                                 uint8_t *sample, size_t sample_length,
                                 uint8_t *work, size_t work_length);
 
-uint64_t cikenuma_lookup_hidden_bound(uint64_t N, uint64_t g, uint64_t L, uint64_t M,
-                                      uint64_t s, uint64_t d,
+uint64_t cikenuma_lookup_hidden_bound(uint64_t N, uint64_t g, uint64_t L, uint64_t W,
+                                      uint64_t M, uint64_t s, uint64_t d,
                                       const uint8_t *blocks, size_t blocks_length,
                                       const uint8_t *amplitudes, size_t amplitudes_length,
                                       const uint8_t *samples, size_t samples_length,
@@ -513,8 +533,8 @@ uint64_t cikenuma_lookup_hidden_bound(uint64_t N, uint64_t g, uint64_t L, uint64
                                       const uint8_t *sample, size_t sample_length,
                                       const uint8_t *work, size_t work_length);
 
-uint64_t cikenuma_lookup_hidden_gates(uint64_t N, uint64_t g, uint64_t L, uint64_t M,
-                                      uint64_t s, uint64_t d,
+uint64_t cikenuma_lookup_hidden_gates(uint64_t N, uint64_t g, uint64_t L, uint64_t W,
+                                      uint64_t M, uint64_t s, uint64_t d,
                                       const uint8_t *blocks, size_t blocks_length,
                                       const uint8_t *amplitudes, size_t amplitudes_length,
                                       const uint8_t *samples, size_t samples_length,
@@ -534,6 +554,7 @@ uint64_t cikenuma_lookup_hidden_gates(uint64_t N, uint64_t g, uint64_t L, uint64
  *   N            degree
  *   g            the gadget's base is 2^g
  *   L            how many digits the gadget has
+ *   W            how many ones the key has at most, 0 to N
  *   M            number of classes
  *   s            how many classes an entry has, which is 1
  *   d            how many selectors, 0 to 16
@@ -548,21 +569,21 @@ uint64_t cikenuma_lookup_hidden_gates(uint64_t N, uint64_t g, uint64_t L, uint64
  *   work         2*N*(d + 1) words, room for the CMuxes: what it holds before is of no account, and
  *                afterwards all of it is 0
  *
- * Refusals, in order: 1, 2, 3, 4, 5, 6, 9; 6 goes by both slices of amplitudes. With d = 0 all arguments
- * are tested as with any other d; blocks and amplitudes then have length 0.
+ * Refusals, in order: 1, 2, 12, 3, 4, 5, 6, 9; 6 goes by both slices of amplitudes. With d = 0 all
+ * arguments are tested as with any other d; blocks and amplitudes then have length 0.
  * Bound: the greatest amplitude of all samples plus the sum of the d charges, a selector's charge going
  * by its amplitude; the sample's amplitude alone if d is 0. From 2^31/M on the call refuses with 9, also
  * with d = 0, before anything is written, and the whole bound is still reported.
- * What it means: if the call returns 0, and under a key of 0s and 1s each block holds its bit within its
- * amplitude, and no coefficient of any sample's phase, of all N, is farther than the sample's amplitude
- * from the message that holds its classes, then coefficient 0 of the written sample's phase under that
- * key is no farther than the bound from the encoded class of the entry that the bits name. And
- * cikenuma_decrypt_classes with the same N and M, with s = 1 and that key gives this class. Of the other
- * coefficients nothing is said.
+ * What it means: if the call returns 0, and under a key of 0s and 1s with at most W ones each block
+ * holds its bit within its amplitude, and no coefficient of any sample's phase, of all N, is farther
+ * than the sample's amplitude from the message that holds its classes, then coefficient 0 of the written
+ * sample's phase under that key is no farther than the bound from the encoded class of the entry that
+ * the bits name. And cikenuma_decrypt_classes with the same N and M, with s = 1 and that key gives this
+ * class. Of the other coefficients nothing is said.
  * Gates: 2^(d-r) - 1 + r.
  */
-uint32_t cikenuma_lookup_hidden_vertical(uint64_t N, uint64_t g, uint64_t L, uint64_t M,
-                                         uint64_t s, uint64_t d,
+uint32_t cikenuma_lookup_hidden_vertical(uint64_t N, uint64_t g, uint64_t L, uint64_t W,
+                                         uint64_t M, uint64_t s, uint64_t d,
                                          const uint8_t *blocks, size_t blocks_length,
                                          const uint8_t *amplitudes, size_t amplitudes_length,
                                          const uint8_t *samples, size_t samples_length,
@@ -571,8 +592,8 @@ uint32_t cikenuma_lookup_hidden_vertical(uint64_t N, uint64_t g, uint64_t L, uin
                                          uint8_t *sample, size_t sample_length,
                                          uint8_t *work, size_t work_length);
 
-uint64_t cikenuma_lookup_hidden_vertical_bound(uint64_t N, uint64_t g, uint64_t L, uint64_t M,
-                                               uint64_t s, uint64_t d,
+uint64_t cikenuma_lookup_hidden_vertical_bound(uint64_t N, uint64_t g, uint64_t L, uint64_t W,
+                                               uint64_t M, uint64_t s, uint64_t d,
                                                const uint8_t *blocks, size_t blocks_length,
                                                const uint8_t *amplitudes, size_t amplitudes_length,
                                                const uint8_t *samples, size_t samples_length,
@@ -581,8 +602,8 @@ uint64_t cikenuma_lookup_hidden_vertical_bound(uint64_t N, uint64_t g, uint64_t 
                                                const uint8_t *sample, size_t sample_length,
                                                const uint8_t *work, size_t work_length);
 
-uint64_t cikenuma_lookup_hidden_vertical_gates(uint64_t N, uint64_t g, uint64_t L, uint64_t M,
-                                               uint64_t s, uint64_t d,
+uint64_t cikenuma_lookup_hidden_vertical_gates(uint64_t N, uint64_t g, uint64_t L, uint64_t W,
+                                               uint64_t M, uint64_t s, uint64_t d,
                                                const uint8_t *blocks, size_t blocks_length,
                                                const uint8_t *amplitudes, size_t amplitudes_length,
                                                const uint8_t *samples, size_t samples_length,

@@ -7,33 +7,37 @@ import pathlib
 import sys
 from html import escape
 
-PATH, PALE, LIMIT, TEXT, SOFT = "#0b5cad", "#e3eefa", "#b3261e", "#1f2328", "#6b737c"
+PATH, PALE, LIMIT, OWN, TEXT, SOFT = "#0b5cad", "#e3eefa", "#b3261e", "#1a7f37", "#1f2328", "#6b737c"
 
 
 class Walk:
-    """The parameters, and what is reported at every level of the named entry's path, and at every rotation after it."""
+    """The parameters, and what is reported at every level of the named entry's path, and at every rotation after it.
+
+    The declared weight is N. The levels are also reported with the weight of the key that is used.
+    """
 
     def __init__(self, text):
         lines = [line.split() for line in text.splitlines()]
         rows = {kind: [[int(word) for word in words[1:]] for words in lines if words[0] == kind]
-                for kind in ("parameters", "amplitude", "entry", "level", "rotated", "step", "vertical")}
+                for kind in ("parameters", "weight", "amplitude", "entry", "level", "own", "rotated", "step", "vertical")}
         self.N, self.g, self.L, self.M, self.s, self.d, self.r, self.entry = rows["parameters"][0]
+        self.weight = rows["weight"][0][0]
         self.amplitudes = [row[1] for row in rows["amplitude"]]
         self.entries = [row[1:] for row in rows["entry"]]
-        self.levels = [Level(*row[1:4], *row[4:5], classes=row[5:]) for row in rows["level"]]
+        self.levels, self.own = ([Level(*row[1:4], *row[4:5], classes=row[5:]) for row in rows[kind]] for kind in ("level", "own"))
         self.rotated = [row[1:] for row in rows["rotated"]]
         self.steps = [Level(0, *row[1:4], classes=row[4:]) for row in rows["step"]]
         self.vertical = [Level(0, *row[:2], classes=row[2:]) for row in rows["vertical"]]
         self.limit = 2**31 // self.M
 
-    def charge(self, amplitude):
+    def charge(self, amplitude, weight):
         """The two parts of a charge: that of the block's noise, and that of rounding."""
         precision = self.g * self.L
         rounding = 2 ** (31 - precision) if precision < 32 else 0
-        return 2 * self.L * self.N * 2 ** (self.g - 1) * amplitude, (1 + self.N) * rounding
+        return 2 * self.L * self.N * 2 ** (self.g - 1) * amplitude, (1 + weight) * rounding
 
-    def charges(self, selectors):
-        return sum(sum(self.charge(self.amplitudes[i])) for i in selectors)
+    def charges(self, selectors, weight):
+        return sum(sum(self.charge(self.amplitudes[i], weight)) for i in selectors)
 
     def classes(self, places):
         """The classes of entries with their signs: a changed sign makes class c to -c modulo M."""
@@ -48,9 +52,13 @@ class Walk:
     def check(self):
         """Stops where the numbers aren't what the pictures say of them."""
         require(len(set(self.amplitudes)) == 1, "the amplitudes differ, and the pictures show one")
-        require(len(self.levels) == self.d - self.r + 1, "a level is missing")
-        for i, level in enumerate(self.levels):
-            self.check_level(i, level)
+        for levels, weight in (self.levels, self.N), (self.own, self.weight):
+            require(len(levels) == self.d - self.r + 1, "a level is missing")
+            for i, level in enumerate(levels):
+                self.check_level(i, level, weight)
+        for level, own in zip(self.levels, self.own):
+            same = (level.gates, level.distance, level.classes) == (own.gates, own.distance, own.classes)
+            require(level.answer != 0 or same, "a sample goes by the declared weight")
         require(self.r == 0 or 2**self.r == self.N, "a coefficient has no entry, and the pictures show one in each")
         require(len(self.rotated) == len(self.steps) == self.r, "a rotation is missing")
         for i, step in enumerate(self.steps):
@@ -58,8 +66,8 @@ class Walk:
         if self.r > 0:
             self.check_vertical(self.vertical[0], self.steps[-1])
 
-    def check_level(self, i, level):
-        bound, accepted = self.charges(range(self.r, self.r + i)), level.answer == 0
+    def check_level(self, i, level, weight):
+        bound, accepted = self.charges(range(self.r, self.r + i), weight), level.answer == 0
         require(level.bound == bound, f"the bound of level {i} isn't the sum of its charges")
         require(level.answer == (0 if bound < self.limit else 9), f"the answer of level {i} doesn't go by the limit")
         require(level.gates == (2**i - 1 if accepted else 0), f"level {i} has other gates")
@@ -70,7 +78,7 @@ class Walk:
     def check_step(self, i, step):
         sample, before, after = self.entry >> self.r, self.entry % 2**i, self.entry % 2 ** (i + 1)
         root = self.levels[-1]
-        require(step.bound == root.bound + self.charges(range(i + 1)), f"the bound of step {i} isn't the sum of its charges")
+        require(step.bound == root.bound + self.charges(range(i + 1), self.N), f"the bound of step {i} isn't the sum of its charges")
         require(step.gates == root.gates + i + 1, f"step {i} has other gates")
         require(step.distance <= step.bound, f"step {i} is farther off than its bound")
         require(self.rotated[i] == self.classes(self.places(sample, before + 2**i)), f"step {i} has another rotated sample")
@@ -365,15 +373,16 @@ class Packing:
 class Noise:
     """noise.svg: bounds and distances over the levels, and the numbers in a table below."""
 
-    WIDTH, HEIGHT, LEFT, STEP, TOP, BOTTOM = 900, 560, 96, 71, 76, 418
+    WIDTH, HEIGHT, LEFT, STEP, TOP, BOTTOM = 900, 582, 96, 71, 76, 418
     LOWEST, HIGHEST = 6, 29
 
     def __init__(self, walk):
         self.walk = walk
         self.picture = Picture(
             self.WIDTH, self.HEIGHT, "The noise of a lookup: what is reported, and what is measured",
-            f"For levels 0 to {walk.d} of a lookup: the reported bound, which is the sum of the charges, the greatest distance "
-            "of the phase from the named entry's exact encoding, and the limit, from which on a lookup is refused with 9.")
+            f"For levels 0 to {walk.d} of a lookup: the reported bound, which is the sum of the charges, with the declared weight N "
+            "and with that of the key, the greatest distance of the phase from the named entry's exact encoding, and the limit, "
+            "from which on a lookup is refused with 9.")
         self.picture.text(24, 54, f"{parameters(walk)}. At level i the first i selectors have joined 2^i entries.", fill=SOFT)
         self.scale()
         self.refused()
@@ -409,39 +418,51 @@ class Noise:
         self.picture.text(self.LEFT + 10, y - 10, f"refused with 9: from 2^31/M = {self.walk.limit:,} on", fill=LIMIT)
 
     def points(self):
-        bounds = [(self.x(i), self.y(level.bound)) for i, level in enumerate(self.walk.levels)]
-        self.picture.add("polyline", points=" ".join(f"{number(x)},{number(y)}" for x, y in bounds[1:]), fill="none",
-                         stroke=PATH, stroke_width=2)
-        for i, level in enumerate(self.walk.levels):
-            self.bound_point(*bounds[i])
-            if level.answer == 0:
-                self.distance_point(self.x(i), self.y(level.distance))
+        self.curve(self.walk.own, OWN)
+        self.curve(self.walk.levels, PATH)
+        for i, distance in enumerate(self.distances()):
+            if distance is not None:
+                self.distance_point(self.x(i), self.y(distance))
 
-    def bound_point(self, x, y):
-        self.picture.add("circle", cx=x, cy=y, r=5, fill=PATH)
+    def curve(self, levels, colour):
+        bounds = [(self.x(i), self.y(level.bound)) for i, level in enumerate(levels)]
+        self.picture.add("polyline", points=" ".join(f"{number(x)},{number(y)}" for x, y in bounds[1:]), fill="none",
+                         stroke=colour, stroke_width=2)
+        for x, y in bounds:
+            self.bound_point(x, y, colour)
+
+    def distances(self):
+        """Where a lookup is accepted with either weight; they are those of the same sample."""
+        return [own.distance if level.answer else level.distance for level, own in zip(self.walk.levels, self.walk.own)]
+
+    def bound_point(self, x, y, colour):
+        self.picture.add("circle", cx=x, cy=y, r=5, fill=colour)
 
     def distance_point(self, x, y):
         self.picture.rectangle(x - 5, y - 5, 10, 10, fill="none", stroke=TEXT, stroke_width=2)
 
     def legend(self):
-        left, top = self.x(2) + 20, self.y(2**17)
-        noise, rounding = self.walk.charge(self.walk.amplitudes[0])
-        self.picture.rectangle(left - 16, top - 22, 480, 126, rx=6, fill="#ffffff", stroke="#dfe3e8")
-        self.bound_point(left, top - 4)
-        self.distance_point(left, top + 18)
+        left, top, walk = self.x(2) + 20, self.y(2**17), self.walk
+        (noise, rounding), (_, own) = (walk.charge(walk.amplitudes[0], weight) for weight in (walk.N, walk.weight))
+        self.picture.rectangle(left - 16, top - 22, 510, 148, rx=6, fill="#ffffff", stroke="#dfe3e8")
+        self.bound_point(left, top - 4, PATH)
+        self.bound_point(left, top + 18, OWN)
+        self.distance_point(left, top + 40)
         self.picture.lines(left + 16, top, 22, [
-            "bound that the lookup reports: a charge for each selector so far",
+            "bound that the lookup reports, with W = N: a charge for each selector so far",
+            f"bound with W = {walk.weight}, which is how many words of this key are 1",
             "greatest distance of the phase from the named entry's exact encoding",
-            f"A charge is {noise + rounding:,}:",
-            f"2·L·N·2^(g−1)·A = {noise:,} for the noise of a block, and",
-            f"(1 + N)·E = {rounding:,} for rounding, which shows where the bit is 1"])
+            f"A charge is 2·L·N·2^(g−1)·A = {noise:,} for the noise of a block, and",
+            f"(1 + W)·E for rounding: {rounding:,} with W = N, and {own:,} with W = {walk.weight}.",
+            "Rounding shows where the bit is 1."])
 
     def table(self):
         rows = [("level i", [str(i) for i in range(self.walk.d + 1)], TEXT),
                 ("bit i − 1", [""] + [str(self.walk.entry >> i & 1) for i in range(self.walk.d)], TEXT),
-                ("bound", [f"{level.bound:,}" for level in self.walk.levels], PATH),
-                ("distance", ["refused" if level.answer else f"{level.distance:,}" for level in self.walk.levels], TEXT),
-                ("gates", [f"{level.gates:,}" for level in self.walk.levels], TEXT)]
+                ("W = N", [f"{level.bound:,}" for level in self.walk.levels], PATH),
+                (f"W = {self.walk.weight}", [f"{level.bound:,}" for level in self.walk.own], OWN),
+                ("distance", ["refused" if d is None else f"{d:,}" for d in self.distances()], TEXT),
+                ("gates", [f"{level.gates or own.gates:,}" for level, own in zip(self.walk.levels, self.walk.own)], TEXT)]
         for i, (name, values, colour) in enumerate(rows):
             y = self.BOTTOM + 28 + 22 * i
             self.picture.text(self.LEFT - 8, y, name, text_anchor="end", font_weight="bold", fill=colour)

@@ -10,9 +10,13 @@
  *
  *   level NUMBER ANSWER BOUND GATES
  *
- * and, where the lookup is accepted, the greatest distance of a coefficient of the phase from the exact encoding of the sample
- * that has ENTRY, then the classes that the node decrypts to. Before these lines come the parameters, the amplitudes and the
- * entries. After them come the rotations, where there are any: for each step the classes of the rotated sample, and what the CMux
+ * with the weight N declared, which is enough for any key, and
+ *
+ *   own NUMBER ANSWER BOUND GATES
+ *
+ * with the weight of the key that is used; then, where the lookup is accepted, the greatest distance of a coefficient of the
+ * phase from the exact encoding of the sample that has ENTRY, and the classes that the node decrypts to. Before these lines come
+ * the parameters, the key's weight, the amplitudes and the entries. After them come the rotations, where there are any: for each step the classes of the rotated sample, and what the CMux
  * of the sample and the rotated one makes, with the bound and the gates of all CMuxes so far.
  *
  *   rotated NUMBER CLASSES
@@ -74,6 +78,15 @@ static void print_words(const uint8_t *slice, size_t count)
     printf("\n");
 }
 
+/* How many words of the key are 1. */
+static uint64_t weight(void)
+{
+    uint64_t ones = 0;
+    for (size_t i = 0; i < N; i++)
+        ones += get(key, i);
+    return ones;
+}
+
 static void draw_entry(uint64_t h)
 {
     static uint64_t state = 88675123u;
@@ -128,17 +141,17 @@ static void print_sample(size_t q)
     print_classes(sample, s << r);
 }
 
-/* The lookup with i selectors from number r on, over the samples that the path's node at level i covers. */
-static void print_level(size_t i)
+/* The lookup with i selectors from number r on, over the samples that the path's node at level i covers, with this weight. */
+static void print_level(const char *name, size_t i, uint64_t W)
 {
     const uint8_t *part = table + WORD * s * (entry >> (r + i) << (r + i));
 #define LOOKUP(call) \
-    call(N, g, L, M, s << r, i, blocks + r * block_size(), i * block_size(), amplitudes + WORD * r, WORD * i, \
+    call(N, g, L, W, M, s << r, i, blocks + r * block_size(), i * block_size(), amplitudes + WORD * r, WORD * i, \
         part, WORD * (s << (r + i)), sample, sample_size(), work, sample_size() * (i + 1))
     uint32_t answer = LOOKUP(cikenuma_lookup);
     bound = LOOKUP(cikenuma_lookup_bound);
     gates = LOOKUP(cikenuma_lookup_gates);
-    printf("level %zu %" PRIu32 " %" PRIu64 " %" PRIu64, i, answer, bound, gates);
+    printf("%s %zu %" PRIu32 " %" PRIu64 " %" PRIu64, name, i, answer, bound, gates);
     if (answer == 0)
         print_sample(0);
     else
@@ -160,7 +173,7 @@ static void print_step(size_t i)
     printf("rotated %zu", i);
     print_classes(rotated, s << r);
 #define CMUX(call) \
-    call(N, g, L, get(amplitudes, i), bound, bound, blocks + i * block_size(), block_size(), sample, sample_size(), \
+    call(N, g, L, N, get(amplitudes, i), bound, bound, blocks + i * block_size(), block_size(), sample, sample_size(), \
         rotated, sample_size(), picked, sample_size())
     if (CMUX(cikenuma_cmux) != 0)
         stop("a CMux is refused");
@@ -175,7 +188,7 @@ static void print_step(size_t i)
 static void print_vertical(void)
 {
 #define VERTICAL(call) \
-    call(N, g, L, M, s, d, blocks, d * block_size(), amplitudes, WORD * d, table, WORD * (s << d), picked, sample_size(), \
+    call(N, g, L, N, M, s, d, blocks, d * block_size(), amplitudes, WORD * d, table, WORD * (s << d), picked, sample_size(), \
         work, sample_size() * (d + 1))
     if (VERTICAL(cikenuma_lookup_vertical) != 0)
         stop("the lookup in the vertical packing is refused");
@@ -200,12 +213,15 @@ int main(int count, char **arguments)
         printf(" %" PRIu64, *numbers[i]);
     printf("\n");
     make_key(key, N);
+    printf("weight %" PRIu64 "\n", weight());
     for (size_t i = 0; i < d; i++)
         encrypt_bit(i, entry >> i & 1);
     for (uint64_t h = 0; h < 1u << d; h++)
         draw_entry(h);
     for (size_t i = 0; i <= d - r; i++)
-        print_level(i);
+        print_level("own", i, weight());
+    for (size_t i = 0; i <= d - r; i++)
+        print_level("level", i, N);
     for (size_t i = 0; i < r; i++)
         print_step(i);
     if (r > 0)

@@ -1,6 +1,7 @@
 /*
- * Random selectors for every degree: the rows of a block have the phases that they should have, and the external
- * product and the CMux of noisy samples hold the message that they should, within the bound that they report.
+ * Random selectors for every degree, under keys of at most the weight that is declared: the rows of a block have the phases
+ * that they should have, and the external product and the CMux of noisy samples hold the message that they should, within
+ * the bound that they report.
  */
 #include "portal.h"
 
@@ -26,14 +27,9 @@ struct round {
 /* Rounds in all, and those with a charge below 2^31: no word is farther than that from any other. */
 static unsigned rounds, telling;
 
-static struct gadget gadget_of(const struct round *r)
-{
-    return (struct gadget){r->n.g, r->n.L};
-}
-
 static uint64_t charge(const struct round *r)
 {
-    return charge_of(gadget_of(r), r->n.N, r->n.A);
+    return charge_of(r->n, r->n.A);
 }
 
 /* Half of the gadgets have as many digits as fit, so that little is rounded away. */
@@ -44,10 +40,9 @@ static struct gadget any_gadget(void)
 }
 
 /* None, 1, or up to what keeps the charge below half a turn, where there is such. */
-static uint64_t any_amplitude(struct gadget gadget, uint64_t N)
+static uint64_t any_amplitude(struct numbers n)
 {
-    uint64_t rounding = charge_of(gadget, N, 0), unit = charge_of(gadget, N, 1) - rounding;
-    uint64_t most = rounding < half_turn ? (half_turn - 1 - rounding) / unit : 0;
+    uint64_t rounding = rounding_of(n), most = rounding < half_turn ? (half_turn - 1 - rounding) / unit_of(n) : 0;
     uint64_t kind = below(4);
     return kind < 2 ? kind : below(most + 2);
 }
@@ -71,7 +66,7 @@ static void fill_sample(struct round *r, int which, uint64_t amplitude)
 static void check_row(const struct arguments *a, const struct round *r, size_t t)
 {
     size_t N = (size_t)r->n.N, L = (size_t)r->n.L;
-    uint32_t h = (uint32_t)r->n.m * step_of(gadget_of(r), t % L + 1);
+    uint32_t h = (uint32_t)r->n.m * step_of(gadget_of(r->n), t % L + 1);
     for (size_t i = 0; i < N; i++) {
         uint32_t should = t < L ? (uint32_t)0 - h * r->key[i] : i == 0 ? h : 0;
         uint32_t phase = phase_at(r->block + 2 * t * N, r->key, N, i);
@@ -148,9 +143,9 @@ static void run_round(struct numbers n, uint64_t seed)
     static struct round r;
     size_t N = (size_t)n.N, rows = 2 * (size_t)n.L;
     r.n = n;
-    at("seed %" PRIu64 ": N = %" PRIu64 ", g = %" PRIu64 ", L = %" PRIu64 ", bit %" PRIu64 ", errors up to %" PRIu64,
-       seed, n.N, n.g, n.L, n.m, n.A);
-    choose_key(r.key, N);
+    at("seed %" PRIu64 ": N = %" PRIu64 ", g = %" PRIu64 ", L = %" PRIu64 ", W = %" PRIu64 ", bit %" PRIu64
+       ", errors up to %" PRIu64, seed, n.N, n.g, n.L, n.W, n.m, n.A);
+    choose_key(r.key, N, n.W);
     choose_words(r.masks, rows * N, half_turn);
     choose_words(r.errors, rows * N, n.A);
     fill_sample(&r, 0, n.A0);
@@ -171,8 +166,8 @@ int main(int argc, char **argv)
     for (uint64_t N = 1; N <= MAX_N; N *= 2)
         for (unsigned turn = 0; turn < (N <= 32 ? 200 : N <= 256 ? 40 : 8); turn++) {
             struct gadget gadget = any_gadget();
-            struct numbers n = {.N = N, .g = gadget.g, .L = gadget.L, .m = turn % 2};
-            n.A = any_amplitude(gadget, N);
+            struct numbers n = {.N = N, .g = gadget.g, .L = gadget.L, .W = choose_weight(N), .m = turn % 2};
+            n.A = any_amplitude(n);
             n.A0 = below(2) ? below(half_turn + 1) : below(1000);
             n.A1 = below(2) ? below(half_turn + 1) : below(1000);
             run_round(n, seed);

@@ -5,7 +5,8 @@
 
 A line of the input has the call's name, its arguments (numbers by value, slices as hex, the
 written ones as they were before), its number, bound and gates, and the written slices as they
-must be afterwards. Calls that the table doesn't list are left out.
+must be afterwards. Calls that the table doesn't list are left out. A number that LEFT_OUT lists
+can be missing: the call was made before there was such a number.
 """
 import json
 import sys
@@ -18,40 +19,63 @@ TABLE = {
     "decrypt_scalar": ("decrypt_scalar", "N M", "key sample", "out"),
     "extract": ("extract", "N p", "sample", "out"),
     "encrypt_selector": ("encrypt_selector", "N g L bit", "key masks errors", "out"),
-    "external_product": ("external_product", "N g L A A_in", "block sample", "out"),
-    "gate": ("cmux", "N g L A A0 A1", "block sample0 sample1", "out"),
-    "lookup": ("lookup", "N g L M s d", "blocks amps classes", "out work"),
-    "lookup_vertical": ("lookup_vertical", "N g L M s d", "blocks amps classes", "out work"),
-    "lookup_hidden": ("lookup_hidden", "N g L M s d", "blocks amps samples entry_amps", "out work"),
+    "external_product": ("external_product", "N g L W A A_in", "block sample", "out"),
+    "gate": ("cmux", "N g L W A A0 A1", "block sample0 sample1", "out"),
+    "lookup": ("lookup", "N g L W M s d", "blocks amps classes", "out work"),
+    "lookup_vertical": ("lookup_vertical", "N g L W M s d", "blocks amps classes", "out work"),
+    "lookup_hidden": ("lookup_hidden", "N g L W M s d", "blocks amps samples entry_amps", "out work"),
     "lookup_hidden_vertical": (
-        "lookup_hidden_vertical", "N g L M s d", "blocks amps samples entry_amps", "out work",
+        "lookup_hidden_vertical", "N g L W M s d", "blocks amps samples entry_amps", "out work",
     ),
 }
 
+# What a number is that an earlier call didn't take: any key was as heavy as its degree allows.
+LEFT_OUT = {"W": lambda arguments: arguments["N"]}
+
 HEADER = """\
 # Calls made by another implementation of the scheme, which shares no code with this one; written by from_jsonl.py.
-# Fields, by spaces: the call's name; its numbers; its slices, in order, as hex of their bytes before the call; the
-# returned number, the bound, the gates; the written slices, in order, after the call. An empty slice is '-'.
-# The last line has the number of calls."""
+# Fields, by spaces: the call's name; its numbers; its slices, in order, before the call; the returned number, the bound,
+# the gates; the written slices, in order, after the call. A slice is the hex of its bytes; or 'XX*COUNT', so many bytes
+# that are all the same; or '-', none. And it is '=' where it is as it was: before the call, as in the last line of this
+# call; after it, as before. The last line has the number of calls."""
 
 
-def line(call):
+def written_out(slice_):
+    """A slice by itself. One byte again and again is counted."""
+    count = len(slice_) // 2
+    return f"{slice_[:2]}*{count}" if count > 2 and slice_ == slice_[:2] * count else slice_ or "-"
+
+
+def field(slice_, earlier):
+    return "=" if slice_ and slice_ == earlier else written_out(slice_)
+
+
+def line(call, last):
+    """The line of a call; the one before it of the same name had these arguments."""
     name, numbers, read, written = TABLE[call["call"]]
-    arguments, after = call["args"], call["after"]
-    names = (numbers + " " + read + " " + written).split()
-    assert sorted(names) == sorted(arguments) and sorted(written.split()) == sorted(after)
-    fields = [name] + [arguments[n] for n in names]
-    fields += [call["code"], call["bound"], call["gates"]] + [after[n] for n in written.split()]
-    return " ".join("-" if field == "" else str(field) for field in fields)
+    arguments, after, slices = call["args"], call["after"], (read + " " + written).split()
+    for number in set(numbers.split()) & set(LEFT_OUT) - set(arguments):
+        arguments[number] = LEFT_OUT[number](arguments)
+    assert sorted(numbers.split() + slices) == sorted(arguments) and sorted(written.split()) == sorted(after)
+    fields = [name] + [arguments[n] for n in numbers.split()] + [field(arguments[n], last.get(n)) for n in slices]
+    fields += [call["code"], call["bound"], call["gates"]] + [field(after[n], arguments[n]) for n in written.split()]
+    return " ".join(map(str, fields))
+
+
+def lines(calls):
+    last = {}
+    for call in calls:
+        yield line(call, last.get(call["call"], {}))
+        last[call["call"]] = call["args"]
 
 
 def main(path):
     with open(path) as source:
         calls = [json.loads(text) for text in source]
-    lines = [line(call) for call in calls if call["call"] in TABLE]
+    written = list(lines(call for call in calls if call["call"] in TABLE))
     print(HEADER)
-    print("\n".join(lines))
-    print("end", len(lines))
+    print("\n".join(written))
+    print("end", len(written))
 
 
 main(sys.argv[1])

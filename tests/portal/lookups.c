@@ -1,8 +1,9 @@
 /*
  * Random lookups in every packing, for every degree with every number of selectors: these are encrypted, and a hidden
- * table too, under the same key; an entry is looked up and decrypted. Not one class may be wrong, and no coefficient of
- * the result's phase farther from what it should be than the bound that is reported. Every word is compared with the
- * CMuxes in plain C. Jobs with too much noise must be refused. In small tables every entry is looked up.
+ * table too, under the same key, whose weight is at most the declared one; an entry is looked up and decrypted. Not one
+ * class may be wrong, and no coefficient of the result's phase farther from what it should be than the bound that is
+ * reported. Every word is compared with the CMuxes in plain C. Jobs with too much noise must be refused. In small tables
+ * every entry is looked up.
  */
 #include "portal.h"
 
@@ -201,9 +202,10 @@ static void run_round(const struct call *call, struct numbers n, uint64_t h, enu
     r.call = call;
     r.n = n;
     r.h = h;
-    at("%s: N = %" PRIu64 ", g = %" PRIu64 ", L = %" PRIu64 ", M = %" PRIu64 ", s = %" PRIu64 ", d = %" PRIu64
-       ", entry %" PRIu64 ", amplitudes of choice %d", call->name, n.N, n.g, n.L, n.M, n.s, n.d, h, (int)choice);
-    choose_key(r.key, (size_t)n.N);
+    at("%s: N = %" PRIu64 ", g = %" PRIu64 ", L = %" PRIu64 ", W = %" PRIu64 ", M = %" PRIu64 ", s = %" PRIu64
+       ", d = %" PRIu64 ", entry %" PRIu64 ", amplitudes of choice %d", call->name, n.N, n.g, n.L, n.W, n.M, n.s, n.d, h,
+       (int)choice);
+    choose_key(r.key, (size_t)n.N, n.W);
     choose_classes(&r, choice);
     choose_amplitudes(&r, choice);
     for (size_t i = 0; i < n.d; i++)
@@ -287,7 +289,9 @@ static struct numbers any_numbers(const struct call *call, uint64_t N, uint64_t 
 {
     struct gadget gadget = any_gadget(most_digits(call, N, d));
     const uint64_t most = most_classes(call, N), s[] = {1, most, 1 + below(most), 1 + below(most)};
-    struct numbers n = {.N = N, .g = gadget.g, .L = gadget.L, .M = 2, .s = s[below(4)], .d = d};
+    struct numbers n = {
+        .N = N, .g = gadget.g, .L = gadget.L, .W = choose_weight(N), .M = 2, .s = s[below(4)], .d = d,
+    };
     while (!is_quiet(n))
         n.g++;
     for (n.M = UINT64_C(2) << below(16); !is_quiet(n);)

@@ -115,7 +115,7 @@ static void run_round(struct numbers n, uint64_t seed)
     static struct round r;
     r.n = n;
     at("seed %" PRIu64 ": N = %" PRIu64 ", M = %" PRIu64 ", s = %" PRIu64, seed, n.N, n.M, n.s);
-    choose_key(r.key, (size_t)n.N);
+    choose_key(r.key, (size_t)n.N, n.N);
     choose_words(r.mask, (size_t)n.N, UINT64_C(0x80000000));
     /* Up to the greatest magnitude that is accepted. */
     choose_words(r.errors, (size_t)n.N, UINT64_C(0x80000000) / n.M - 1);

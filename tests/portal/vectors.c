@@ -34,14 +34,18 @@ static const char *field(void)
     return text;
 }
 
-static uint64_t number_field(void)
+static uint64_t parsed(const char *text)
 {
-    const char *text = field();
     char *end;
     errno = 0;
     uint64_t number = strtoull(text, &end, 10);
     need(*text >= '0' && *text <= '9' && !*end && !errno, "a number of 64 bits");
     return number;
+}
+
+static uint64_t number_field(void)
+{
+    return parsed(field());
 }
 
 static uint8_t hex_digit(char c)
@@ -51,24 +55,40 @@ static uint8_t hex_digit(char c)
     return (uint8_t)(found - digits);
 }
 
-static void slice_field(struct bytes *b)
+static uint8_t hex_byte(const char *text)
 {
-    const char *text = field();
-    if (strcmp(text, "-") == 0)
-        text = "";
-    set_length(b, strlen(text) / 2);
-    need(strlen(text) % 2 == 0, "two hex digits for each byte");
-    for (size_t i = 0; i < b->length; i++)
-        b->at[i] = (uint8_t)(hex_digit(text[2 * i]) << 4 | hex_digit(text[2 * i + 1]));
+    return (uint8_t)(hex_digit(text[0]) << 4 | hex_digit(text[1]));
 }
 
-static const struct call *call_named(const char *name)
+/* A slice by its bytes, or as so many bytes that are all the same. */
+static void bytes_field(struct bytes *b, const char *text)
+{
+    const char *times = strchr(text, '*');
+    set_length(b, times ? (size_t)parsed(times + 1) : strlen(text) / 2);
+    need(times ? times == text + 2 && b->length : strlen(text) % 2 == 0, "two hex digits for each byte");
+    for (size_t i = 0; i < (times ? 1 : b->length); i++)
+        b->at[i] = hex_byte(text + 2 * i);
+    if (times)
+        repeat(b, 1);
+}
+
+/* A slice that can be empty, or stand as it was. */
+static void slice_field(struct bytes *b, const struct bytes *was)
+{
+    const char *text = field();
+    if (strcmp(text, "=") == 0)
+        set_bytes(b, was->at, was->length);
+    else
+        bytes_field(b, strcmp(text, "-") == 0 ? "" : text);
+}
+
+static size_t place_of(const char *name)
 {
     for (size_t i = 0; all_calls[i]; i++)
         if (strcmp(all_calls[i]->name, name) == 0)
-            return all_calls[i];
+            return i;
     need(0, "a call that the table lists");
-    return NULL;
+    return 0;
 }
 
 /* The slice that the call left, against the one that it must leave. */
@@ -84,14 +104,18 @@ static void check_after(const struct arguments *a, size_t k, const struct bytes 
 /* One call: the fields after its name. */
 static void run_line(const char *name)
 {
+    /* The slices before the last call of each name. */
+    static struct bytes before[MAX_CALLS][MAX_SLICES];
     struct arguments a = {0};
-    struct bytes after = {0};
+    struct bytes after = {0}, *was = before[place_of(name)];
     struct answer want;
-    a.call = call_named(name);
+    a.call = all_calls[place_of(name)];
     for (size_t i = 0; a.call->numbers[i]; i++)
         a.number[i] = number_field();
-    for (size_t k = 0; k < a.call->slices; k++)
-        slice_field(&a.slice[k]);
+    for (size_t k = 0; k < a.call->slices; k++) {
+        slice_field(&a.slice[k], &was[k]);
+        set_bytes(&was[k], a.slice[k].at, a.slice[k].length);
+    }
     uint64_t number = number_field();
     need(number <= UINT32_MAX, "a returned number of 32 bits");
     want.number = (uint32_t)number;
@@ -99,7 +123,7 @@ static void run_line(const char *name)
     want.gates = number_field();
     make_call(&a, want);
     for (size_t k = a.call->slices - a.call->written; k < a.call->slices; k++) {
-        slice_field(&after);
+        slice_field(&after, &was[k]);
         check_after(&a, k, &after);
     }
     free(after.at);

@@ -72,7 +72,7 @@ def parse(data):
 
 
 def noise_bound(job):
-    """The sum of the charges."""
+    """The sum of the charges. A job file declares no weight of the key: it means n."""
     precision = 2 ** (31 - job.g * job.digit_count) if job.g * job.digit_count < 32 else 0
     return sum(2 * job.digit_count * job.n * 2 ** (job.g - 1) * amplitude + (1 + job.n) * precision for amplitude in job.amplitudes)
 

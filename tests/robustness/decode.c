@@ -5,15 +5,12 @@
 
 struct reader {
     const uint8_t *at;
-    size_t left;
+    size_t length, taken;
 };
 
 static uint8_t take_byte(struct reader *r)
 {
-    if (r->left == 0)
-        return 0;
-    r->left--;
-    return *r->at++;
+    return r->taken++ < r->length ? r->at[r->taken - 1] : 0;
 }
 
 static uint64_t take(struct reader *r, int bytes)
@@ -42,6 +39,8 @@ static uint64_t lawful_value(const struct call *call, char letter, uint64_t rand
         return 1 + random % 16;
     case 'L':
         return 1 + random % (32 / g);
+    case 'W':
+        return random % (N + 1);
     case 'm':
         return random % 2;
     case 'd':
@@ -61,7 +60,7 @@ static uint64_t near_limit(uint64_t random)
     return limits[random % (sizeof limits / sizeof limits[0])] + (random >> 32) % 3 - 1;
 }
 
-/* Mostly lawful: with six numbers, about a third of the sets are lawful in all. */
+/* Mostly lawful: with seven numbers, about three of ten sets are lawful in all. */
 static uint64_t decoded_number(struct reader *r, const struct call *call, char letter, const struct numbers *n)
 {
     uint8_t choice = take_byte(r);
@@ -95,6 +94,13 @@ static uint64_t most_products(uint64_t random)
     return random < 16 ? 1 << 27 : random < 2048 ? 1 << 22 : 1 << 20;
 }
 
+/* A number that was lawful beside a higher degree is the greatest that is lawful beside this one. */
+static void lower_to(uint64_t *number, uint64_t most, uint64_t before)
+{
+    if (*number > most && *number <= before)
+        *number = most;
+}
+
 /* Halves the degree until there is no more to do than that; of more than ten selectors one is left out each time. */
 static void lower_numbers(struct numbers *n, const struct call *call, uint64_t most)
 {
@@ -103,10 +109,11 @@ static void lower_numbers(struct numbers *n, const struct call *call, uint64_t m
         n->N /= 2;
         n->d -= n->d > 10 && n->d <= most_selectors(call);
     }
-    if (n->N < from && n->s > n->N && n->s <= from)
-        n->s = n->N;
-    if (n->N < from && n->p >= n->N && n->p < from)
-        n->p = n->N - 1;
+    if (n->N == from)
+        return;
+    lower_to(&n->s, n->N, from);
+    lower_to(&n->W, n->N, from);
+    lower_to(&n->p, n->N - 1, from - 1);
 }
 
 /* ---- slices ---- */
@@ -173,7 +180,7 @@ static const struct call *decoded_call(uint8_t which)
 
 void decode_input(struct arguments *a, struct place *place, const uint8_t *data, size_t size)
 {
-    struct reader r = {data, size < INPUT ? size : INPUT};
+    struct reader r = {.at = data, .length = size < INPUT ? size : INPUT};
     struct numbers n = {.N = 1, .M = 2};
     uint8_t which = take_byte(&r), whole_degree = take_byte(&r);
     uint64_t most = most_products(take(&r, 2));
@@ -193,4 +200,6 @@ void decode_input(struct arguments *a, struct place *place, const uint8_t *data,
     }
     if (kept && words_in(slice_of(a, AMPLITUDES)))
         put_word(slice_of(a, AMPLITUDES), 0, (uint32_t)half_turn);
+    if (r.taken > tally.input)
+        tally.input = r.taken;
 }

@@ -15,8 +15,8 @@
 
 #include "portal.h"
 
-/* Bytes of an input that count; those that are missing are 0. */
-enum { INPUT = 154 };
+/* Bytes of an input that count: those of the call that takes the most. Those that are missing are 0. */
+enum { INPUT = 163 };
 
 /* ---- decode.c ---- */
 
@@ -61,9 +61,10 @@ int one_input(const uint8_t *data, size_t size);
 
 /* ---- tally.c ---- */
 
-/* Argument sets, calls of exports, and sets by call and returned number. */
+/* Argument sets, calls of exports, sets by call and returned number, and the most bytes of an input that counted. */
 struct tally {
-    uint64_t sets, exports, returned[16][10];
+    uint64_t sets, exports, returned[MAX_CALLS][MAX_REFUSALS];
+    size_t input;
 };
 
 extern struct tally tally;
@@ -71,7 +72,7 @@ extern struct tally tally;
 void count_set(const struct call *call, uint32_t number);
 void print_tally(void);
 
-/* Checks that every call was accepted, and refused with each of its numbers. */
+/* Checks that every call was accepted, and refused with each of its numbers, and that every byte of INPUT counts. */
 void check_variety(void);
 
 /* Prints how to make the calls of an input again. */

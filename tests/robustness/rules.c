@@ -13,11 +13,6 @@ static int is_power_of_two(uint64_t number, uint64_t least, uint64_t most)
     return number >= least && number <= most && (number & (number - 1)) == 0;
 }
 
-static struct gadget gadget_of(struct arguments *a)
-{
-    return (struct gadget){value(a, 'g', 1), value(a, 'L', 1)};
-}
-
 static int wrong_place(struct arguments *a)
 {
     uint64_t N = value(a, 'N', 1), s = value(a, 's', 1);
@@ -67,7 +62,7 @@ static uint64_t sum_of_charges(struct arguments *a)
     const struct bytes *amplitudes = slice_of(a, AMPLITUDES);
     uint64_t sum = 0;
     for (size_t i = 0; i < words_in(amplitudes); i++)
-        sum += charge_of(gadget_of(a), value(a, 'N', 0), word_at(amplitudes, i));
+        sum += charge_of(numbers_of(a), word_at(amplitudes, i));
     return sum;
 }
 
@@ -78,7 +73,7 @@ static uint64_t bound_of(struct arguments *a)
     if (a->call == &encrypt_classes || a->call == &encrypt_selector)
         return greatest_of(a, a->call == &encrypt_classes ? ERRORS : ROW_ERRORS);
     if (a->call == &external_product || a->call == &cmux)
-        return charge_of(gadget_of(a), value(a, 'N', 0), value(a, 'A', 0)) + value(a, 'B', A0 > A1 ? A0 : A1);
+        return charge_of(numbers_of(a), value(a, 'A', 0)) + value(a, 'B', A0 > A1 ? A0 : A1);
     return a->call->packing != NO_TABLE ? greatest_of(a, SAMPLE_AMPLITUDES) + sum_of_charges(a) : 0;
 }
 
@@ -90,7 +85,9 @@ static int breaks(struct arguments *a, uint32_t rule)
     case 1:
         return !is_power_of_two(value(a, 'N', 1), 1, 1024);
     case 2:
-        return !lawful_gadget(gadget_of(a));
+        return !lawful_gadget(gadget_of(numbers_of(a)));
+    case 12:
+        return value(a, 'W', 0) > value(a, 'N', 0);
     case 3:
         return !is_power_of_two(M, 2, 65536);
     case 4:
@@ -112,8 +109,8 @@ static int breaks(struct arguments *a, uint32_t rule)
 
 struct answer ruled(struct arguments *a)
 {
-    for (const uint32_t *rule = a->call->refusals; *rule; rule++)
-        if (breaks(a, *rule))
+    for (const uint32_t *rule = refusal_order; *rule; rule++)
+        if (can_refuse(a->call, *rule) && breaks(a, *rule))
             return (struct answer){*rule, *rule == 9 ? bound_of(a) : 0, 0};
     uint64_t gates = a->call == &cmux ? 1 : gates_of(a->call, value(a, 'N', 1), value(a, 'd', 0));
     return (struct answer){0, bound_of(a), gates};

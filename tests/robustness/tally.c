@@ -19,24 +19,26 @@ void print_tally(void)
 {
     printf("robustness: %" PRIu64 " argument sets, %" PRIu64 " calls of exports\n", tally.sets, tally.exports);
     printf("%-23s%9s", "", "accepted");
-    for (int number = 1; number <= 9; number++)
-        printf("%9d", number);
+    for (const uint32_t *number = refusal_order; *number; number++)
+        printf("%9" PRIu32, *number);
     for (size_t c = 0; all_calls[c]; c++) {
-        printf("\n%-23s", all_calls[c]->name);
-        for (int number = 0; number <= 9; number++)
-            printf("%9" PRIu64, tally.returned[c][number]);
+        printf("\n%-23s%9" PRIu64, all_calls[c]->name, tally.returned[c][0]);
+        for (const uint32_t *number = refusal_order; *number; number++)
+            printf("%9" PRIu64, tally.returned[c][*number]);
     }
     printf("\n");
 }
 
 void check_variety(void)
 {
+    at("inputs");
+    check(tally.input == INPUT, "%zu bytes of an input count, not %d", tally.input, INPUT);
     for (size_t c = 0; all_calls[c]; c++) {
         const struct call *call = all_calls[c];
         at("%s", call->name);
         check(tally.returned[c][0] > 0, "never accepted");
-        for (size_t i = 0; call->refusals[i]; i++)
-            check(tally.returned[c][call->refusals[i]] > 0, "never refused with %" PRIu32, call->refusals[i]);
+        for (const uint32_t *number = refusal_order; *number; number++)
+            check(tally.returned[c][*number] > 0 || !can_refuse(call, *number), "never refused with %" PRIu32, *number);
     }
 }
 

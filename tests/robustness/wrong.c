@@ -1,5 +1,6 @@
 /* Faults for the self-test: exports are wrapped (the linker's --wrap), and the variable WRONG names what is spoiled. */
 #include "cikenuma.h"
+#include "portal.h"
 
 #include <stdlib.h>
 #include <string.h>
@@ -58,9 +59,35 @@ uint64_t __wrap_cikenuma_extract_gates(EXTRACT(const uint8_t))
     return __real_cikenuma_extract_gates(N, EXTRACTED) + wrong("gates");
 }
 
+#define CMUX(kind)                                                                                                     \
+    uint64_t N, uint64_t g, uint64_t L, uint64_t W, uint64_t A, uint64_t A0, uint64_t A1, const uint8_t *block,        \
+        size_t length0, const uint8_t *sample0, size_t length1, const uint8_t *sample1, size_t length2, kind *out,     \
+        size_t length3
+
+#define JOINED A, A0, A1, block, length0, sample0, length1, sample1, length2, out, length3
+
+uint32_t __real_cikenuma_cmux(CMUX(uint8_t)), __wrap_cikenuma_cmux(CMUX(uint8_t));
+uint64_t __real_cikenuma_cmux_bound(CMUX(const uint8_t)), __wrap_cikenuma_cmux_bound(CMUX(const uint8_t));
+
+/* A weight that is too great: taken for N, or cut; refused with N, too; or before the gadget is judged. */
+uint32_t __wrap_cikenuma_cmux(CMUX(uint8_t))
+{
+    uint64_t judged = wrong("weight-free") && W > N ? N : wrong("weight-cut") ? (uint32_t)W : W;
+    uint32_t number = __real_cikenuma_cmux(N, g, L, judged, JOINED);
+    if (wrong("weight-at-degree") && W == N && number != 1 && number != 2)
+        return 12;
+    return wrong("weight-before-gadget") && number == 2 && W > N ? 12 : number;
+}
+
+/* The bound of any key. */
+uint64_t __wrap_cikenuma_cmux_bound(CMUX(const uint8_t))
+{
+    return __real_cikenuma_cmux_bound(N, g, L, wrong("weight-not-charged") && W < N ? N : W, JOINED);
+}
+
 #define SELECTORS                                                                                                      \
-    uint64_t N, uint64_t g, uint64_t L, uint64_t M, uint64_t s, uint64_t d, const uint8_t *blocks, size_t length0,     \
-        const uint8_t *amplitudes, size_t length1
+    uint64_t N, uint64_t g, uint64_t L, uint64_t W, uint64_t M, uint64_t s, uint64_t d, const uint8_t *blocks,         \
+        size_t length0, const uint8_t *amplitudes, size_t length1
 
 #define LOOKUP                                                                                                         \
     SELECTORS, const uint8_t *classes, size_t length2, uint8_t *out, size_t length3, uint8_t *work, size_t length4
@@ -70,21 +97,27 @@ uint64_t __wrap_cikenuma_extract_gates(EXTRACT(const uint8_t))
 uint32_t __real_cikenuma_lookup(LOOKUP), __wrap_cikenuma_lookup(LOOKUP);
 uint32_t __real_cikenuma_lookup_vertical(LOOKUP), __wrap_cikenuma_lookup_vertical(LOOKUP);
 
+/* A weight that is too great is judged after the numbers of classes and selectors, or not at all where none is charged. */
 uint32_t __wrap_cikenuma_lookup(LOOKUP)
 {
-    uint32_t number = __real_cikenuma_lookup(N, g, L, M, s, LOOKED_UP);
+    uint64_t judged = wrong("weight-with-selectors") && d == 0 && W > N ? N : W;
+    uint32_t number = __real_cikenuma_lookup(N, g, L, judged, M, s, LOOKED_UP);
     if (wrong("work-left") && number == 0)
         work[length4 - 1] = 1;
+    if (wrong("weight-after-classes") && number == 12) {
+        uint32_t other = __real_cikenuma_lookup(N, g, L, N, M, s, LOOKED_UP);
+        return other == 3 || other == 4 ? other : number;
+    }
     return number;
 }
 
 uint32_t __wrap_cikenuma_lookup_vertical(LOOKUP)
 {
     int of_entries = wrong("vertical-classes") && s >= 1 && s <= N;
-    uint32_t number = __real_cikenuma_lookup_vertical(N, g, L, M, of_entries ? 1 : s, LOOKED_UP);
+    uint32_t number = __real_cikenuma_lookup_vertical(N, g, L, W, M, of_entries ? 1 : s, LOOKED_UP);
     if (wrong("vertical-work-left") && number == 0)
         work[0] = 1;
-    return wrong("vertical-selectors") && d > 10 && (number == 0 || number > 4) ? 4 : number;
+    return wrong("vertical-selectors") && d > 10 && (number == 0 || comes_before(4, number)) ? 4 : number;
 }
 
 #define HIDDEN(kind)                                                                                                   \
@@ -92,7 +125,7 @@ uint32_t __wrap_cikenuma_lookup_vertical(LOOKUP)
         size_t length4, kind *work, size_t length5
 
 #define HIDDEN_LOOKED_UP                                                                                               \
-    N, g, L, M, s, d, blocks, length0, amplitudes, length1, samples, length2, sample_amplitudes, length3, out,         \
+    N, g, L, W, M, s, d, blocks, length0, amplitudes, length1, samples, length2, sample_amplitudes, length3, out,      \
         length4, work, length5
 
 uint32_t __real_cikenuma_lookup_hidden(HIDDEN(uint8_t)), __wrap_cikenuma_lookup_hidden(HIDDEN(uint8_t));
@@ -139,6 +172,6 @@ uint64_t __wrap_cikenuma_lookup_hidden_bound(HIDDEN(const uint8_t))
 uint32_t __wrap_cikenuma_lookup_hidden_vertical(HIDDEN(uint8_t))
 {
     uint32_t number = __real_cikenuma_lookup_hidden_vertical(HIDDEN_LOOKED_UP);
-    int judged = number == 0 || number > 5;
+    int judged = number == 0 || comes_before(5, number);
     return wrong("hidden-part") && judged && N >> d > 1 ? 5 : number;
 }

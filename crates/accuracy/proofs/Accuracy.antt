@@ -28,7 +28,7 @@ use Rattle.trgsw.proofs.Told.{told_light}
 use Rattle.ring.specs.Polynomial.{log}
 use Rattle.tables.specs.declared.Packing.TheVariants.{Horizontal, Vertical}
 use Rattle.tables.specs.declared.Visibility.TheVariants.{Public, Hidden}
-use Rattle.trgsw.specs.Parameters.{masks, weight, parameters}
+use Rattle.trgsw.specs.Parameters.{masks, parameters}
 use Rattle.tables.specs.Numbers.{rotations, gate_count, table_size, table_samples, table_words}
 use Rattle.trgsw.specs.External.{charge}
 use Rattle.trees.specs.LookedUp.{charges, largest}
@@ -105,7 +105,7 @@ module _ (j : Job) (accepted : IsAccepted j) (bits : ℕ → ℕ) (key classes o
   below : (i : ℕ) → i < length classes → get_or classes i 0 < j.numbers.M
   below = told_below key classes j fit.job told
 
-  -- Its selectors name one of them. A key has at most N ones.
+  -- Its selectors name one of them.
   selects : Selects (parameters j.numbers.scheme) j.numbers.d bits (words key) (words j.blocks) (words j.amplitudes)
   selects = record {
     gadget = fit.job.numbers.scheme.gadget;
@@ -122,7 +122,7 @@ module _ (j : Job) (accepted : IsAccepted j) (bits : ℕ → ℕ) (key classes o
       Close (2 ^ 32) x.scheme.N (noise_bound j) (phase x.scheme.N (masks x.scheme) (words key) (words (lookup_sample j))) (named_message x (named j bits) classes)
   lookup_near =
       rw lookup_words
-      (table_near j.numbers classes fit.job.numbers below (masks j.numbers.scheme) (weight j.numbers.scheme)
+      (table_near j.numbers classes fit.job.numbers below (masks j.numbers.scheme) j.numbers.scheme.W
       bits (words key) (words j.blocks) (words j.amplitudes) selects (entry j) held)
 
   -- As a distance of words, that is at most the reported bound.
@@ -138,7 +138,7 @@ module _ (j : Job) (accepted : IsAccepted j) (bits : ℕ → ℕ) (key classes o
       decrypted x.scheme.N (masks x.scheme) x.M x.s (words key) (words (lookup_sample j)) ≡ entry_classes x (named j bits) classes
   lookup_holds =
       rw lookup_words
-      (table_classes j.numbers classes fit.job.numbers below (masks j.numbers.scheme) (weight j.numbers.scheme)
+      (table_classes j.numbers classes fit.job.numbers below (masks j.numbers.scheme) j.numbers.scheme.W
       bits (words key) (words j.blocks) (words j.amplitudes) selects (entry j) held
       (told_size key classes j fit.job told) fit.quiet)
 
@@ -151,7 +151,7 @@ accuracy j accepted bits key classes out given told =
     let ok = (lookup_accepted j accepted).job.numbers in
     let decrypts : number (decrypt_classes x.scheme.N x.M x.s key (lookup_sample j) out) ≡ 0 =
     ap number (decrypt_accepts x.scheme.N x.M x.s key (lookup_sample j) out (record {
-      key_fits = given.key_fits;
+      key_fits = given.key_fits.fits;
       class_number = ok.class_number;
       some = ok.some;
       most = classes_le x ok;

@@ -52,7 +52,7 @@ zeros_at zero t = refl
 zeros_at (suc n) zero = refl
 zeros_at (suc n) (suc t) = zeros_at n t
 
--- A job of a public table that passes refusals 1 to 7.
+-- A job of a public table that passes the refusals up to 7.
 module _ (j : Job) (ok : Wellformed j) (e : j.numbers.visibility ≡ Public) where
   abbrev x : Numbers
   x = j.numbers

@@ -10,12 +10,13 @@ use lib.ListN.{get_or}
 use Rattle.torus.specs.Sum.{chunk}
 use Rattle.torus.specs.Bytes.{words}
 use Rattle.torus.proofs.Joined.{words_chunk}
-use Rattle.selectors.specs.Calls.{SelectorInput}
+use Rattle.selectors.specs.Calls.{SelectorInput, selector_set}
 use Rattle.selectors.proofs.Accepted.{selector_accepted}
 use Rattle.selectors.proofs.SelectorNoise.{selector_holds}
 use Rattle.trgsw.specs.declared.Parameters.{Parameters}
 use Rattle.trgsw.specs.Parameters.{parameters, block_size}
 use Rattle.trgsw.specs.Block.{Holds}
+use Rattle.trgsw.proofs.Told.{holds_told}
 use Rattle.trees.specs.LookedUp.{selector}
 use Rattle.lookup.specs.Job.{Job}
 use Rattle.lookup.specs.Calls.{lookup, lookup_sample, IsAccepted}
@@ -28,7 +29,7 @@ selector_lent p i blocks = words_chunk (block_size p) i blocks
 
 -- A block that encryption left holds its bit within its amplitude.
 made_holds : (c : SelectorInput) (block : List ℕ) (amplitude : ℕ) → Made c block amplitude
-    → Holds (parameters c.scheme) c.bit amplitude (words c.key) (words block)
+    → Holds (selector_set c) c.bit amplitude (words c.key) (words block)
 made_holds c block amplitude made =
     rw made.left (λ r i lr li. le_trans (selector_holds c made.accepted made.are_bytes r i lr li) made.declared)
 
@@ -41,7 +42,7 @@ encrypted_premises j bits masks_of errors room key out given =
       key_fits = given.key_fits;
       bit = λ i l. (selector_accepted _ (given.made i l).accepted).rows.bit;
       holds = λ i l. subst (λ block. Holds p (bits i) (get_or (words j.amplitudes) i 0) (words key) block) (selector_lent p i j.blocks)
-          (made_holds _ _ _ (given.made i l));
+          (holds_told j.numbers.scheme (bits i) _ _ _ (made_holds _ _ _ (given.made i l)));
       out_length = given.out_length;
     }
 

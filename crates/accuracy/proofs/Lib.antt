@@ -4,3 +4,4 @@ pub mod Accuracy
 pub mod EndToEnd
 pub mod HiddenTables
 pub mod AsHidden
+pub mod Lighter

@@ -13,7 +13,7 @@ use Rattle.selectors.specs.Calls.{SelectorInput, encrypt_selector, encrypt_selec
 use Rattle.tables.specs.declared.Visibility.{Visibility}
 use Rattle.tables.specs.declared.Visibility.TheVariants.{Public, Hidden}
 use Rattle.tables.specs.declared.Numbers.{Numbers}
-use Rattle.trgsw.specs.Parameters.{scheme_of, SchemeKey, masks, parameters, sample_size, block_size}
+use Rattle.trgsw.specs.Parameters.{SchemeKey, masks, parameters, sample_size, block_size}
 use Rattle.tables.specs.Numbers.{sample_classes, table_size, table_samples}
 use Rattle.trees.specs.Tree.{entry_number}
 use Rattle.lookup.specs.Job.{Job}
@@ -21,8 +21,8 @@ use Rattle.trees.specs.LookedUp.{selector}
 use Rattle.tables.specs.Table.{entry_classes, entry_message, table_message, named_message}
 use Rattle.lookup.specs.Calls.{entry}
 
--- The key is of 0s and 1s, each selector block holds its bit within its declared amplitude, and decryption is lent a slice `out` for
--- s classes.
+-- The key is of 0s and 1s with at most W ones, each selector block holds its bit within its declared amplitude, and decryption is lent a
+-- slice `out` for s classes.
 pub record Premises (j : Job) (bits : ℕ → ℕ) (key out : List ℕ) : Type 0 where
   pub key_fits : SchemeKey j.numbers.scheme key
   pub bit : (i : ℕ) → i < j.numbers.d → bits i ≤ 1
@@ -89,7 +89,7 @@ pub record Made (c : SelectorInput) (block : List ℕ) (amplitude : ℕ) : Type 
 pub record Encrypted (j : Job) (bits : ℕ → ℕ) (masks_of errors room : ℕ → List ℕ) (key out : List ℕ) : Type 0 where
   pub key_fits : SchemeKey j.numbers.scheme key
   pub made : (i : ℕ) → i < j.numbers.d → let x = j.numbers.scheme in
-      Made (record { scheme = scheme_of x.N x.g x.L; bit = bits i; key = key; masks = masks_of i; errors = errors i; block = room i })
+      Made (record { N = x.N; g = x.g; L = x.L; bit = bits i; key = key; masks = masks_of i; errors = errors i; block = room i })
       (chunk (4 * block_size (parameters x)) i j.blocks) (get_or (words j.amplitudes) i 0)
   pub out_length : length out ≡ 4 * j.numbers.s
 

@@ -23,7 +23,7 @@ use Rattle.answers.specs.declared.Ledger.{Ledger}
 use Rattle.answers.specs.declared.Refusal.{Refusal}
 use Rattle.answers.specs.declared.Refusal.TheVariants as Refused
 use Rattle.answers.specs.Answers.{refusal_number, number, noise, greatest_magnitude, after}
-use Rattle.answers.specs.Checks.{Checked, passed, unless, ◌or_else◌, ClassNumber, is_class_number, all_below, degree, gadget, class_number, count, depth, position, exact, amplitude, amplitudes, classes, bit, key}
+use Rattle.answers.specs.Checks.{Checked, passed, unless, ◌or_else◌, ClassNumber, is_class_number, all_below, degree, gadget, weight, class_number, count, depth, position, exact, amplitude, amplitudes, classes, bit, key}
 use Rattle.answers.proofs.ClassNumbers.{test_class_number, class_number_test}
 
 -- ---- checks one after another
@@ -45,6 +45,7 @@ went_on a x e = rw e refl
 pub number_some : (r : Refusal) → 1 ≤ refusal_number r
 number_some Refused.Degree = omega arith
 number_some Refused.Gadget = omega arith
+number_some Refused.Weight = omega arith
 number_some Refused.ClassNumber = omega arith
 number_some Refused.Count = omega arith
 number_some Refused.Depth = omega arith
@@ -86,6 +87,15 @@ check_other false r n some other e = other e
 pub first_other : (a b : Checked) (n : ℕ) → (number a ≡ n → ⊥) → (number b ≡ n → ⊥) → number (a or_else b) ≡ n → ⊥
 first_other (Ok u) b n ha hb = hb
 first_other (Err r) b n ha hb = ha
+
+pub check_most : (t : Bool) (r : Refusal) (n : ℕ) → refusal_number r ≤ n → number (unless t r) ≤ n
+check_most true r n own = omega arith
+check_most false r n own = own
+
+-- Nor does a chain give a number above those of its checks.
+pub first_most : {T : Type 0} (a : Checked) (x : Result T Refusal) (n : ℕ) → number a ≤ n → number x ≤ n → number (a or_else x) ≤ n
+first_most (Ok u) x n ha hx = hx
+first_most (Err r) x n ha hx = ha
 
 -- Behind a check that does not give n, the answer n comes of the rest.
 pub past_other : {T : Type 0} (a : Checked) (n : ℕ) (x : Result T Refusal) → (number a ≡ n → ⊥) → number (a or_else x) ≡ n → (a ≡ passed) × (number x ≡ n)
@@ -142,6 +152,12 @@ gadget_held g L e = test_lawful g L (test_passed (is_lawful g L) _ e)
 
 pub gadget_met : (g L : ℕ) → Lawful g L → gadget g L ≡ passed
 gadget_met g L ok = simp (lawful_test g L ok)
+
+pub weight_held : (most W : ℕ) → weight most W ≡ passed → W ≤ most
+weight_held most W e = leb-true W most (test_passed (leb W most) _ e)
+
+pub weight_met : (most W : ℕ) → W ≤ most → weight most W ≡ passed
+weight_met most W h = simp (le-leb W most h)
 
 pub class_number_held : (M : ℕ) → class_number M ≡ passed → ClassNumber M
 class_number_held M e = test_class_number M (test_passed (is_class_number M) _ e)
@@ -215,6 +231,13 @@ quiet false f b e = absurd (omega arith)
 
 pub noise_held : (M b g : ℕ) → number (noise M b g) ≡ 0 → b < 2 ^ 31 / M
 noise_held M b g e = ltb-true b (2 ^ 31 / M) (quiet (ltb b (2 ^ 31 / M)) _ b e)
+
+told_most : (t : Bool) (f : Ledger) (b : ℕ) → number (cond t (Ok f) (Err (Refused.Noise b))) ≤ 9
+told_most true f b = omega arith
+told_most false f b = omega arith
+
+pub noise_most : (M b g : ℕ) → number (noise M b g) ≤ 9
+noise_most M b g = told_most (ltb b (2 ^ 31 / M)) _ b
 
 loud : (t : Bool) (f : Ledger) (b : ℕ) → number (cond t (Ok f) (Err (Refused.Noise b))) ≡ 9 → t ≡ false
 loud true f b e = absurd (omega arith)

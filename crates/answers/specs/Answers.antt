@@ -4,16 +4,17 @@ use Rattle.std.specs.Prelude.{cond, Result, Ok, Err, List, [], ◌∷◌, ℕ, �
 use Rattle.torus.specs.Word.{magnitude}
 use Rattle.answers.specs.declared.Ledger.{Ledger}
 use Rattle.answers.specs.declared.Refusal.{Refusal}
-use Rattle.answers.specs.declared.Refusal.TheVariants.{Degree, Gadget, ClassNumber, Count, Depth, Position, Length, Amplitude, Class, Bit, Key, Noise}
+use Rattle.answers.specs.declared.Refusal.TheVariants.{Degree, Gadget, Weight, ClassNumber, Count, Depth, Position, Length, Amplitude, Class, Bit, Key, Noise}
 
 -- What a call reports, or why it refuses.
 abbrev pub Answer : Type 0
 Answer = Result Ledger Refusal
 
--- The numbers of document 01's table.
+-- The numbers of document 01's table, and those that later papers give.
 abbrev pub refusal_number : Refusal → ℕ
 refusal_number Degree = 1
 refusal_number Gadget = 2
+refusal_number Weight = 12
 refusal_number ClassNumber = 3
 refusal_number Count = 4
 refusal_number Depth = 4
@@ -29,6 +30,7 @@ refusal_number (Noise b) = 9
 abbrev pub refusal_bound : Refusal → ℕ
 refusal_bound Degree = 0
 refusal_bound Gadget = 0
+refusal_bound Weight = 0
 refusal_bound ClassNumber = 0
 refusal_bound Count = 0
 refusal_bound Depth = 0

@@ -1,5 +1,5 @@
--- The checks that calls share, row by row of document 01's table of returned numbers: each passes, or says why it refuses
--- (`refusal_number` has the numbers). Numbers are whole, however large; lengths count bytes.
+-- The checks that calls share, row by row of document 01's table of returned numbers and of what later papers add to it: each passes, or says
+-- why it refuses (`refusal_number` has the numbers). Numbers are whole, however large; lengths count bytes.
 -- Assumes nothing.
 use Rattle.std.specs.Prelude.{◌≡◌, Bool, true, ◌&&◌, cond, Result, Ok, Err, List, [], ◌∷◌, ℕ, ◌+◌, ◌*◌, ◌^◌, ◌≤◌, eqb, leb, ltb}
 use Rattle.std.specs.Int.Count.{ones}
@@ -21,7 +21,8 @@ passed = Ok tt
 abbrev pub unless : Bool → Refusal → Checked
 unless test refusal = cond test passed (Err refusal)
 
--- "Each call checks what applies to it, in rising number": a check that refuses, or else the rest.
+-- A check that refuses, or else the rest. Document 01 has "Each call checks what applies to it, in rising number"; a later paper puts its
+-- number where it says, as 12 "directly after 2". So the order of a call's checks is 1, 2, 12, 3, 4, 5, 6, 7, 8, 9, as far as they apply.
 infixr 3 ◌or_else◌
 abbrev pub ◌or_else◌ : {T : Type 0} → Checked → Result T Refusal → Result T Refusal
 check or_else rest = result_and check rest
@@ -48,6 +49,10 @@ degree N = unless (is_degree N) Refused.Degree
 -- 2: "g not 1 to 16, L is 0, or g·L above 32"
 abbrev pub gadget : ℕ → ℕ → Checked
 gadget g L = unless (is_lawful g L) Refused.Gadget
+
+-- 12, "directly after 2": "a W above N", of Paper 6 of document 02. N is the most ones that a key can have.
+abbrev pub weight : (most W : ℕ) → Checked
+weight most W = unless (leb W most) Refused.Weight
 
 -- 3: "M not a power of two from 2 to 65,536"
 abbrev pub class_number : ℕ → Checked

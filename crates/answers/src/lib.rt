@@ -15,6 +15,8 @@ pub enum Refusal {
     Degree,
     // 2: a word has no room for the digits.
     Gadget,
+    // 12: the declared weight is above the most ones that a key can have.
+    Weight,
     // 3: M is no power of two from 2 to 65,536.
     ClassNumber,
     // 4: a number that counts from 1, as of classes in an entry or of a digit, is 0 or too large.
@@ -45,6 +47,7 @@ impl Refusal {
         match self {
             Refusal::Degree => 1,
             Refusal::Gadget => 2,
+            Refusal::Weight => 12,
             Refusal::ClassNumber => 3,
             Refusal::Count => 4,
             Refusal::Depth => 4,
@@ -162,6 +165,13 @@ pub fn gadget(g: u64, l: u64) -> Checked
     ensures { result ≡ Checks.gadget g l }
 {
     unless(gadget::lawful(g, l), Refusal::Gadget)
+}
+
+// 12: the declared weight of a key.
+pub fn weight(most: u64, w: u64) -> Checked
+    ensures { result ≡ Checks.weight most w }
+{
+    unless(w <= most, Refusal::Weight)
 }
 
 // Whether m is a number of classes.

@@ -17,7 +17,7 @@ use Rattle.trgsw.specs.External as External
 use Rattle.tables.specs.declared.Packing.TheVariants.{Horizontal, Vertical}
 use Rattle.tables.specs.declared.Visibility.TheVariants.{Public, Hidden}
 use Rattle.tables.specs.declared.Numbers.{Numbers}
-use Rattle.trgsw.specs.Parameters.{masks, weight, parameters}
+use Rattle.trgsw.specs.Parameters.{masks, parameters}
 use Rattle.tables.specs.Numbers.{rotations, levels, gate_count}
 use Rattle.trees.specs.Tree.{tree, entry_number}
 use Rattle.trees.specs.LookedUp.{charges, largest}
@@ -152,7 +152,7 @@ alone_j A = record {
 }
 
 pub bound_of_pair : bound (lookup pair_j) ≡ 918504
-unfolding lookup masks weight rotations charges largest sum External.charge precision words bytes ones all_below
+unfolding lookup masks rotations charges largest sum External.charge precision words bytes ones all_below
 bound_of_pair = refl
 
 pub bound_alone : bound (lookup (alone_j 300)) ≡ 300

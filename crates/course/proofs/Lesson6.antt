@@ -78,7 +78,7 @@ equal_accepted M d c e =
     noise_held M (d * c) (2 ^ d - 1) (before (Check.depth 10 d) _ rest).1
 
 -- Exercise 6.6. `equal_charges` answers as the lookup in a public table in the horizontal packing does: if all d amplitudes are A and
--- refusals 1 to 7 are passed, the lookup's whole answer is that of `equal_charges` with the charge of A.
+-- the refusals up to 7 are passed, the lookup's whole answer is that of `equal_charges` with the charge of A.
 pub charges_equal : (p : Parameters) (A d : ℕ) (As : List ℕ) → ((i : ℕ) → i < d → get_or As i 0 ≡ A) → charges p As d ≡ d * charge p A
 unfolding charges
 charges_equal p A d As same = sum_cong d _ (λ i. charge p A) (λ i l. ap (charge p) (same i l)) ∙ sum_const d (charge p A)

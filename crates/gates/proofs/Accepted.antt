@@ -1,17 +1,24 @@
--- What holds of the input of an accepted external product and of an accepted CMux, and that a call with such input is accepted.
+-- What holds of the input of an accepted external product and of an accepted CMux, and that a call with such input is accepted; and when 12
+-- refuses one.
 -- Assumes nothing.
 use mathlib.Core.Path.{◌≡◌, ap, sym, ◌∙◌}
-use Prim.Native.Nat.{◌+◌, ◌*◌, ◌^◌, ◌≤◌, max}
+use Prim.Native.Nat.{ℕ, ◌+◌, ◌*◌, ◌^◌, ◌≤◌, ◌<◌, max}
+use lib.Dec.{eqb, leb}
 use lib.ListN.{length}
-use Rattle.std.specs.Prelude.{Ok}
+use native.Mathlib.Omega.{arith}
+use Rattle.std.specs.Prelude.{Ok, Err}
+use Rattle.gadget.specs.Digits.{Lawful}
+use Rattle.ring.specs.Polynomial.{Degree}
 use Rattle.answers.specs.Checks.{◌or_else◌}
 use Rattle.answers.specs.Checks as Check
 use Rattle.answers.specs.Answers.{number}
-use Rattle.answers.proofs.Laws.{or_else_assoc, before, went_on, both_passed, both_pass, exact_held, exact_met, amplitude_met}
+use Rattle.answers.specs.declared.Ledger.{Ledger}
+use Rattle.answers.specs.declared.Refusal.TheVariants as Refused
+use Rattle.answers.proofs.Laws.{or_else_assoc, before, went_on, stopped, check_most, first_most, both_passed, both_pass, exact_held, exact_met, amplitude_met}
 use Rattle.trgsw.specs.declared.Parameters.{Parameters}
 use Rattle.trgsw.specs.Parameters.{LawfulScheme, parameters, scheme_refusal, sample_size, block_size}
 use Rattle.trgsw.specs.External.{charge}
-use Rattle.trgsw.proofs.Checked.{scheme_held, scheme_met, two_amplitudes, three_amplitudes}
+use Rattle.trgsw.proofs.Checked.{scheme_held, scheme_met, heavy_refused, twelve_held, two_amplitudes, three_amplitudes}
 use Rattle.gates.specs.Calls.{ProductInput, external_product, CMuxInput, cmux}
 use Rattle.gates.specs.Inner.{product_lengths, product_amplitudes, cmux_lengths, cmux_amplitudes}
 
@@ -59,6 +66,21 @@ module _ (c : ProductInput) where
       ∙ went_on _ _ (scheme_met c.scheme ok.scheme)
       ∙ went_on _ _ (both_pass _ _ (exact_met _ _ ok.block_length) (both_pass _ _ (exact_met _ _ ok.sample_length) (exact_met _ _ ok.out_length)))
       ∙ went_on _ _ (both_pass _ _ (amplitude_met c.amplitude ok.amplitude) (amplitude_met c.sample_amplitude ok.sample_amplitude))
+
+  -- 12 comes of a weight above N where 1 and 2 pass, and of nothing else.
+  pub external_heavy : Degree c.scheme.N → Lawful c.scheme.g c.scheme.L → c.scheme.N < c.scheme.W → external_product c ≡ Err Refused.Weight
+  unfolding external_product
+  external_heavy degree gadget heavy = sym (stopped (scheme_refusal c.scheme) Refused.Weight _ (heavy_refused c.scheme degree gadget heavy))
+
+  pub external_twelve : number (external_product c) ≡ 12 → (Degree c.scheme.N × Lawful c.scheme.g c.scheme.L) × (c.scheme.N < c.scheme.W)
+  unfolding external_product
+  external_twelve =
+      let five : (bytes words : ℕ) → number (Check.exact bytes words) ≤ 9 = λ bytes words. check_most (eqb bytes (4 * words)) Refused.Length 9 (omega arith) in
+      let six : (A : ℕ) → number (Check.amplitude A) ≤ 9 = λ A. check_most (leb A (2 ^ 31)) Refused.Amplitude 9 (omega arith) in
+      let made : number {T = Ledger} (Ok (record { bound = charge product_set c.amplitude + c.sample_amplitude; gates = 0 })) ≤ 9 = omega arith in
+      twelve_held c.scheme _
+      (first_most _ _ 9 (five (length c.block) _) (first_most _ _ 9 (five (length c.sample) _) (first_most _ _ 9 (five (length c.out) _)
+      (first_most _ _ 9 (six c.amplitude) (first_most _ _ 9 (six c.sample_amplitude) made)))))
 
 -- ---- the CMux
 
@@ -111,3 +133,18 @@ module _ (c : CMuxInput) where
       (both_pass _ _ (exact_met _ _ ok.sample₁_length) (exact_met _ _ ok.out_length))))
       ∙ went_on _ _ (both_pass _ _ (amplitude_met c.amplitude ok.amplitude)
       (both_pass _ _ (amplitude_met c.amplitude₀ ok.amplitude₀) (amplitude_met c.amplitude₁ ok.amplitude₁)))
+
+  pub cmux_heavy : Degree c.scheme.N → Lawful c.scheme.g c.scheme.L → c.scheme.N < c.scheme.W → cmux c ≡ Err Refused.Weight
+  unfolding cmux
+  cmux_heavy degree gadget heavy = sym (stopped (scheme_refusal c.scheme) Refused.Weight _ (heavy_refused c.scheme degree gadget heavy))
+
+  pub cmux_twelve : number (cmux c) ≡ 12 → (Degree c.scheme.N × Lawful c.scheme.g c.scheme.L) × (c.scheme.N < c.scheme.W)
+  unfolding cmux
+  cmux_twelve =
+      let five : (bytes words : ℕ) → number (Check.exact bytes words) ≤ 9 = λ bytes words. check_most (eqb bytes (4 * words)) Refused.Length 9 (omega arith) in
+      let six : (A : ℕ) → number (Check.amplitude A) ≤ 9 = λ A. check_most (leb A (2 ^ 31)) Refused.Amplitude 9 (omega arith) in
+      let made : number {T = Ledger} (Ok (record { bound = max c.amplitude₀ c.amplitude₁ + charge cmux_set c.amplitude; gates = 1 })) ≤ 9 = omega arith in
+      twelve_held c.scheme _
+      (first_most _ _ 9 (five (length c.block) _) (first_most _ _ 9 (five (length c.sample₀) _) (first_most _ _ 9 (five (length c.sample₁) _)
+      (first_most _ _ 9 (five (length c.out) _)
+      (first_most _ _ 9 (six c.amplitude) (first_most _ _ 9 (six c.amplitude₀) (first_most _ _ 9 (six c.amplitude₁) made)))))))

@@ -21,7 +21,7 @@ use Rattle.trgsw.proofs.Noise.{external_charge, external_within, cmux_charge, cm
 use Rattle.gates.specs.Calls.{ProductInput, external_product, external_product_out, CMuxInput, cmux, cmux_out}
 use Rattle.gates.proofs.Accepted.{external_accepted, external_accepts, cmux_accepted, cmux_accepts}
 
--- Of a lent block: the key is of 0s and 1s, and under it the block holds the bit m within its declared amplitude.
+-- Of a lent block: the key is of 0s and 1s with at most W ones, and under it the block holds the bit m within its declared amplitude.
 pub record HeldBit (x : Scheme) (m A : ℕ) (key block : List ℕ) : Type 0 where
   pub key_fits : SchemeKey x key
   pub bit : m ≤ 1

@@ -21,13 +21,14 @@ use Rattle.trlwe.specs.Sample.{Key, polynomials, masked, phase, body, encryption
 use Rattle.trgsw.specs.Parameters as Parameters
 use Rattle.trgsw.specs.declared.Parameters.{Parameters}
 use Rattle.trgsw.specs.declared.Scheme.{Scheme}
-use Rattle.trgsw.specs.Parameters.{SchemeKey, masks, weight, parameters}
+use Rattle.trgsw.specs.Parameters.{SchemeKey, masks, parameters}
 use Rattle.trgsw.specs.Block.{row, row_phase, Holds}
 use Rattle.trgsw.specs.External.{external, difference, cmux_sample, charge}
 use Rattle.selectors.specs.Encrypted.{encrypted_row, encrypted_block}
 use Rattle.selectors.specs.Calls.{SelectorInput, encrypt_selector, encrypt_selector_block}
 use Rattle.selectors.proofs.SelectorNoise.{selector_holds}
 use Rattle.gates.specs.Calls.{ProductInput, external_product, external_product_out, CMuxInput, cmux, cmux_out}
+use Rattle.trgsw.proofs.Told.{every_key}
 use Rattle.gates.proofs.CallNoise.{external_product_within, cmux_call_within}
 
 -- With N = 1 there is one coefficient.
@@ -69,17 +70,17 @@ gate_j = record { scheme = scheme_j; amplitude = 7; amplitude₀ = 0; amplitude�
 
 -- The key is lawful.
 pub is_key_j : Key 1 1 key_j
-unfolding masks weight words bytes ones
+unfolding masks words bytes ones
 is_key_j = record { degree = record { power = refl; most = lit≤ tt }; size = refl; bits = at_0 (λ i. get_or (words key_j) i 0 ≤ 1) (le_refl 1) }
 
--- So it is one of such a call.
+-- So it is one of such a call, whose W is N.
 pub keyed_j : SchemeKey scheme_j key_j
 unfolding masks
-keyed_j = is_key_j
+keyed_j = every_key scheme_j key_j (le_refl 1) is_key_j
 
 -- The block has no noise at all.
 rows_j : (r : ℕ) → r < 4 → distance (phase 1 1 (words key_j) (row set_j r (words block_j)) 0) (row_phase set_j 1 (words key_j) r 0) ≤ 0
-unfolding masks weight words bytes phase masked sum product row_phase magnitude
+unfolding masks words bytes phase masked sum product row_phase magnitude
 rows_j zero l = lit≤ tt
 rows_j (suc zero) l = lit≤ tt
 rows_j (suc (suc zero)) l = lit≤ tt
@@ -98,26 +99,26 @@ holds_j r i lr li = le_trans (exact_j r i lr li) (lit≤ tt)
 
 -- The call is accepted, with the document's bound and gates.
 pub accepted_j : number (cmux gate_j) ≡ 0
-unfolding masks weight cmux charge precision bytes ones
+unfolding masks cmux charge precision bytes ones
 accepted_j = refl
 
 pub bound_j : bound (cmux gate_j) ≡ 917504
-unfolding masks weight cmux charge precision bytes ones
+unfolding masks cmux charge precision bytes ones
 bound_j = refl
 
 pub gates_j : gates (cmux gate_j) ≡ 1
-unfolding masks weight cmux charge precision bytes ones
+unfolding masks cmux charge precision bytes ones
 gates_j = refl
 
 -- The result is entry 1.
 pub result_j : words (cmux_out gate_j) ≡ 0 ∷ 2147483648 ∷ []
-unfolding masks weight cmux_out cmux after charge precision words bytes ones
+unfolding masks cmux_out cmux after charge precision words bytes ones
     cmux_sample polynomials joined tabulate external difference sum product digit rounded
 result_j = refl
 
 -- The theorem applies: the phase is within the bound of what entry 1 says.
 pub within_j : distance (phase 1 1 (words key_j) (words (cmux_out gate_j)) 0) (8 * 2 ^ 28) ≤ 917504
-unfolding masks weight words bytes phase masked sum product magnitude
+unfolding masks words bytes phase masked sum product magnitude
 within_j =
     subst (λ b. distance (phase 1 1 (words key_j) (words (cmux_out gate_j)) 0) (8 * 2 ^ 28) ≤ b) bound_j
     (cmux_call_within gate_j accepted_j 1 key_j (record { key_fits = keyed_j; bit = le_refl 1; holds = holds_j }) (bytes_are (0 ∷ 3 * 2 ^ 28 ∷ []))
@@ -141,7 +142,7 @@ block_room = bytes (0 ∷ 0 ∷ 0 ∷ 0 ∷ 0 ∷ 0 ∷ 0 ∷ 0 ∷ [])
 
 -- The input of an encryption of a bit.
 abbrev pub input : (N g L bit : ℕ) (key masks_of errors room : List ℕ) → SelectorInput
-input N g L bit key masks_of errors room = record { scheme = Parameters.scheme_of N g L; bit = bit; key = key; masks = masks_of; errors = errors; block = room }
+input N g L bit key masks_of errors room = record { N = N; g = g; L = L; bit = bit; key = key; masks = masks_of; errors = errors; block = room }
 
 abbrev pub input_e : SelectorInput
 input_e = input 1 16 2 1 key_j masks_e errors_e block_room
@@ -152,11 +153,11 @@ block_e = encrypt_selector_block input_e
 
 -- The call is accepted, and reports the greatest magnitude.
 pub accepted_e : number (encrypt_selector input_e) ≡ 0
-unfolding masks weight encrypt_selector words bytes ones all_below
+unfolding masks encrypt_selector words bytes ones all_below
 accepted_e = refl
 
 pub bound_e : bound (encrypt_selector input_e) ≡ 3
-unfolding masks weight encrypt_selector words bytes ones all_below greatest_magnitude magnitude
+unfolding masks encrypt_selector words bytes ones all_below greatest_magnitude magnitude
 bound_e = refl
 
 -- The block holds 1 within 3, by the theorem,
@@ -166,7 +167,7 @@ holds_e = subst (λ b. Holds set_j 1 b (words key_j) (words block_e)) bound_e
 
 -- and not within 2: its row 1 has the error -3.
 pub noise_e : distance (phase 1 1 (words key_j) (row set_j 1 (words block_e)) 0) (row_phase set_j 1 (words key_j) 1 0) ≡ 3
-unfolding masks weight encrypt_selector_block encrypt_selector after words bytes ones all_below encrypted_block encrypted_row encryption body joined tabulate
+unfolding masks encrypt_selector_block encrypt_selector after words bytes ones all_below encrypted_block encrypted_row encryption body joined tabulate
     phase masked sum product row_phase magnitude
 noise_e = refl
 
@@ -179,18 +180,18 @@ abbrev pub product_e : ProductInput
 product_e = record { scheme = scheme_j; amplitude = 3; sample_amplitude = 2; block = block_e; sample = sample_e; out = sample_room }
 
 pub product_accepted_e : number (external_product product_e) ≡ 0
-unfolding masks weight encrypt_selector_block encrypt_selector external_product after charge precision words bytes ones all_below
+unfolding masks encrypt_selector_block encrypt_selector external_product after charge precision words bytes ones all_below
     encrypted_block encrypted_row encryption body joined tabulate masked sum product
 product_accepted_e = refl
 
 pub product_bound_e : bound (external_product product_e) ≡ 393218
-unfolding masks weight encrypt_selector_block encrypt_selector external_product after charge precision words bytes ones all_below
+unfolding masks encrypt_selector_block encrypt_selector external_product after charge precision words bytes ones all_below
     encrypted_block encrypted_row encryption body joined tabulate masked sum product
 product_bound_e = refl
 
 -- The external product with it is within its bound of 5·2^28, by the theorem.
 pub product_within_e : distance (phase 1 1 (words key_j) (words (external_product_out product_e)) 0) (mul 1 (5 * 2 ^ 28)) ≤ 393218
-unfolding masks weight words bytes phase masked sum product magnitude
+unfolding masks words bytes phase masked sum product magnitude
 product_within_e =
     subst (λ b. distance (phase 1 1 (words key_j) (words (external_product_out product_e)) 0) (mul 1 (5 * 2 ^ 28)) ≤ b) product_bound_e
     (external_product_within product_e product_accepted_e 1 key_j (record { key_fits = keyed_j; bit = le_refl 1; holds = holds_e }) (λ i. 5 * 2 ^ 28)

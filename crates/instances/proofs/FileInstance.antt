@@ -22,7 +22,7 @@ use Rattle.trgsw.specs.Block.{Holds}
 use Rattle.trgsw.specs.External.{external, difference, cmux_sample, charge}
 use Rattle.instances.proofs.BlockInstance.{set_j, at_0, key_j, keyed_j, holds_j}
 use Rattle.trees.specs.Tree.{tree, entry_number}
-use Rattle.trgsw.specs.Parameters.{masks, weight, parameters}
+use Rattle.trgsw.specs.Parameters.{masks, parameters}
 use Rattle.tables.specs.Numbers.{rotations}
 use Rattle.trees.specs.LookedUp.{selector, tree_sample, blind_rotation, looked_up, largest, charges}
 use Rattle.lookup.specs.Calls.{lookup, lookup_sample}
@@ -44,14 +44,14 @@ file_j A = bytes (words_j A)
 -- "The output is whole".
 pub output_j : output (file_j 7) ≡ ascii "answer 0\nbound 917504\ngates 1\nmask 0 0\nbody 0 2147483648\n"
 unfolding output report line numbers word_lines ascii decimal decimal_up_to job_sample job_answer file_refusal read_job
-    masks weight rotations file_packing lookup_sample lookup after largest charges sum charge precision words bytes ones all_below
+    masks rotations file_packing lookup_sample lookup after largest charges sum charge precision words bytes ones all_below
     looked_up blind_rotation tree_sample tree trivial message encode cmux_sample polynomials joined tabulate external difference product digit rounded
 output_j = refl
 
 -- "with 1024, 134217728, answer 9"
 pub output_1024 : output (file_j 1024) ≡ ascii "answer 9\nbound 134217728\n"
 unfolding output report line numbers ascii decimal decimal_up_to job_sample job_answer file_refusal read_job
-    masks weight rotations file_packing lookup largest charges sum charge precision words bytes ones all_below joined tabulate
+    masks rotations file_packing lookup largest charges sum charge precision words bytes ones all_below joined tabulate
 output_1024 = refl
 
 -- "A refusal prints only the answer and bound lines": the empty input.
@@ -62,11 +62,11 @@ output_none = refl
 -- ---- the accuracy rule
 
 accepted_j : number (job_answer (file_j 7)) ≡ 0
-unfolding job_answer file_refusal read_job masks weight rotations file_packing lookup largest charges sum charge precision words bytes ones all_below joined tabulate
+unfolding job_answer file_refusal read_job masks rotations file_packing lookup largest charges sum charge precision words bytes ones all_below joined tabulate
 accepted_j = refl
 
 bound_j : bound (job_answer (file_j 7)) ≡ 917504
-unfolding job_answer file_refusal read_job masks weight rotations file_packing lookup largest charges sum charge precision words bytes ones all_below joined tabulate
+unfolding job_answer file_refusal read_job masks rotations file_packing lookup largest charges sum charge precision words bytes ones all_below joined tabulate
 bound_j = refl
 
 -- Its premises are met under the key 1, and it says of the file that its sample decrypts to class 8, that of entry 1.

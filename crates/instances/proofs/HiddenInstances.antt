@@ -32,7 +32,7 @@ use Rattle.tables.specs.declared.Packing.{Packing}
 use Rattle.tables.specs.declared.Packing.TheVariants.{Horizontal, Vertical}
 use Rattle.tables.specs.declared.Visibility.TheVariants.{Hidden}
 use Rattle.tables.specs.declared.Numbers.{Numbers}
-use Rattle.trgsw.specs.Parameters.{masks, weight}
+use Rattle.trgsw.specs.Parameters.{masks}
 use Rattle.tables.specs.Numbers.{rotations, sample_classes}
 use Rattle.trees.specs.LookedUp.{tree_sample, rotation_step, blind_rotation, looked_up, largest, charges}
 use Rattle.lookup.specs.Job.{Job}
@@ -164,17 +164,17 @@ job_vertical = record {
 
 -- The lookup is accepted, with the sum of two charges, which is 203776, and the amplitude of sample 0.
 accepted_vertical : IsAccepted job_vertical
-unfolding encrypt_selector_block encrypt_selector encrypt_classes_sample encrypt_classes masks weight rotations lookup after charges largest External.charge precision
+unfolding encrypt_selector_block encrypt_selector encrypt_classes_sample encrypt_classes masks rotations lookup after charges largest External.charge precision
     words bytes ones count_trailing_zeros all_below greatest_magnitude magnitude encrypted_block encrypted_row encryption body joined tabulate masked sum product message encode
 accepted_vertical = refl
 
 pub bound_vertical : bound (lookup job_vertical) ≡ 204776
-unfolding encrypt_selector_block encrypt_selector encrypt_classes_sample encrypt_classes masks weight rotations lookup after charges largest External.charge precision
+unfolding encrypt_selector_block encrypt_selector encrypt_classes_sample encrypt_classes masks rotations lookup after charges largest External.charge precision
     words bytes ones count_trailing_zeros all_below greatest_magnitude magnitude encrypted_block encrypted_row encryption body joined tabulate masked sum product message encode
 bound_vertical = refl
 
 pub gates_vertical : gates (lookup job_vertical) ≡ 2
-unfolding encrypt_selector_block encrypt_selector encrypt_classes_sample encrypt_classes masks weight rotations lookup after charges largest External.charge precision
+unfolding encrypt_selector_block encrypt_selector encrypt_classes_sample encrypt_classes masks rotations lookup after charges largest External.charge precision
     words bytes ones count_trailing_zeros all_below greatest_magnitude magnitude encrypted_block encrypted_row encryption body joined tabulate masked sum product message encode
 gates_vertical = refl
 
@@ -217,7 +217,7 @@ rule_vertical =
 
 -- Its noise is not 0. It is above the amplitude of the sample that the bits name.
 pub noise_vertical : distance (phase 2 1 (words key_p) (words (lookup_sample job_vertical)) 0) (14 * 2 ^ 28) ≡ 609
-unfolding encrypt_selector_block encrypt_selector encrypt_classes_sample encrypt_classes lookup_sample masks weight rotations lookup after charges largest External.charge
+unfolding encrypt_selector_block encrypt_selector encrypt_classes_sample encrypt_classes lookup_sample masks rotations lookup after charges largest External.charge
     precision words bytes ones count_trailing_zeros all_below greatest_magnitude magnitude encrypted_block encrypted_row encryption body joined tabulate masked sum product
     message encode looked_up blind_rotation rotation_step rotated_sample rotated tree_sample tree cmux_sample polynomials external difference digit rounded phase
 noise_vertical = refl
@@ -238,17 +238,17 @@ job_horizontal = record {
 
 -- The lookup is accepted, with one charge, which is 103424, and the amplitude of entry 1.
 accepted_horizontal : IsAccepted job_horizontal
-unfolding encrypt_selector_block encrypt_selector encrypt_classes_sample encrypt_classes masks weight rotations lookup after charges largest External.charge precision
+unfolding encrypt_selector_block encrypt_selector encrypt_classes_sample encrypt_classes masks rotations lookup after charges largest External.charge precision
     words bytes ones all_below greatest_magnitude magnitude encrypted_block encrypted_row encryption body joined tabulate masked sum product message encode
 accepted_horizontal = refl
 
 pub bound_horizontal : bound (lookup job_horizontal) ≡ 104924
-unfolding encrypt_selector_block encrypt_selector encrypt_classes_sample encrypt_classes masks weight rotations lookup after charges largest External.charge precision
+unfolding encrypt_selector_block encrypt_selector encrypt_classes_sample encrypt_classes masks rotations lookup after charges largest External.charge precision
     words bytes ones all_below greatest_magnitude magnitude encrypted_block encrypted_row encryption body joined tabulate masked sum product message encode
 bound_horizontal = refl
 
 pub gates_horizontal : gates (lookup job_horizontal) ≡ 1
-unfolding encrypt_selector_block encrypt_selector encrypt_classes_sample encrypt_classes masks weight rotations lookup after charges largest External.charge precision
+unfolding encrypt_selector_block encrypt_selector encrypt_classes_sample encrypt_classes masks rotations lookup after charges largest External.charge precision
     words bytes ones all_below greatest_magnitude magnitude encrypted_block encrypted_row encryption body joined tabulate masked sum product message encode
 gates_horizontal = refl
 
@@ -307,7 +307,7 @@ rule_horizontal =
 pub noise_horizontal :
     (distance (phase 2 1 (words key_p) (words (lookup_sample job_horizontal)) 0) (5 * 2 ^ 28) ≡ 1003)
     × (distance (phase 2 1 (words key_p) (words (lookup_sample job_horizontal)) 1) (9 * 2 ^ 28) ≡ 835)
-unfolding encrypt_selector_block encrypt_selector encrypt_classes_sample encrypt_classes lookup_sample masks weight rotations lookup after charges largest External.charge
+unfolding encrypt_selector_block encrypt_selector encrypt_classes_sample encrypt_classes lookup_sample masks rotations lookup after charges largest External.charge
     precision words bytes ones all_below greatest_magnitude magnitude encrypted_block encrypted_row encryption body joined tabulate masked sum product
     message encode looked_up blind_rotation tree_sample tree cmux_sample polynomials external difference digit rounded phase
 noise_horizontal = (refl, refl)

@@ -33,7 +33,7 @@ use Rattle.trees.specs.Tree.{tree, entry_number}
 use Rattle.tables.specs.declared.Packing.TheVariants.{Horizontal}
 use Rattle.tables.specs.declared.Visibility.TheVariants.{Public}
 use Rattle.tables.specs.declared.Numbers.{Numbers}
-use Rattle.trgsw.specs.Parameters.{masks, weight, parameters}
+use Rattle.trgsw.specs.Parameters.{masks, parameters}
 use Rattle.tables.specs.Numbers.{rotations}
 use Rattle.trees.specs.LookedUp.{selector, tree_sample, blind_rotation, looked_up, largest, charges}
 use Rattle.lookup.specs.Job.{Job, declaring}
@@ -64,20 +64,20 @@ job_j = record { numbers = numbers_j; blocks = block_j; amplitudes = amplitudes_
 
 -- The lookup is accepted, with the document's bound and gates.
 pub job_accepted : number (lookup job_j) ≡ 0
-unfolding masks weight rotations lookup charges largest sum External.charge precision words bytes ones all_below
+unfolding masks rotations lookup charges largest sum External.charge precision words bytes ones all_below
 job_accepted = refl
 
 pub job_bound : bound (lookup job_j) ≡ 917504
-unfolding masks weight rotations lookup charges largest sum External.charge precision words bytes ones all_below
+unfolding masks rotations lookup charges largest sum External.charge precision words bytes ones all_below
 job_bound = refl
 
 pub job_gates : gates (lookup job_j) ≡ 1
-unfolding masks weight rotations lookup charges largest sum External.charge precision words bytes ones all_below
+unfolding masks rotations lookup charges largest sum External.charge precision words bytes ones all_below
 job_gates = refl
 
 -- "mask 0 0", "body 0 2147483648"
 pub job_result : words (lookup_sample job_j) ≡ 0 ∷ 2147483648 ∷ []
-unfolding lookup_sample masks weight rotations lookup after charges largest sum External.charge precision words bytes ones all_below
+unfolding lookup_sample masks rotations lookup after charges largest sum External.charge precision words bytes ones all_below
     looked_up blind_rotation tree_sample tree trivial message encode cmux_sample polynomials joined tabulate external difference product digit rounded
 job_result = refl
 
@@ -149,17 +149,17 @@ job_fe = record { numbers = numbers_fe; blocks = blocks_fe; amplitudes = amplitu
 
 -- The lookup is accepted, with the sum of two charges and three gates.
 pub accepted_fe : number (lookup job_fe) ≡ 0
-unfolding encrypt_selector_block encrypt_selector masks weight rotations lookup after charges largest External.charge precision words bytes ones all_below
+unfolding encrypt_selector_block encrypt_selector masks rotations lookup after charges largest External.charge precision words bytes ones all_below
     encrypted_block encrypted_row encryption body joined tabulate masked sum product
 accepted_fe = refl
 
 pub bound_fe : bound (lookup job_fe) ≡ 786432
-unfolding encrypt_selector_block encrypt_selector masks weight rotations lookup after charges largest External.charge precision words bytes ones all_below
+unfolding encrypt_selector_block encrypt_selector masks rotations lookup after charges largest External.charge precision words bytes ones all_below
     encrypted_block encrypted_row encryption body joined tabulate masked sum product
 bound_fe = refl
 
 pub gates_fe : gates (lookup job_fe) ≡ 3
-unfolding encrypt_selector_block encrypt_selector masks weight rotations lookup after charges largest External.charge precision words bytes ones all_below
+unfolding encrypt_selector_block encrypt_selector masks rotations lookup after charges largest External.charge precision words bytes ones all_below
     encrypted_block encrypted_row encryption body joined tabulate masked sum product
 gates_fe = refl
 
@@ -204,14 +204,14 @@ rule_fe =
 
 -- Its mask is not 0, and neither is its noise.
 pub result_fe : words (lookup_sample job_fe) ≡ 2654608328 ∷ 1580875556 ∷ []
-unfolding encrypt_selector_block encrypt_selector lookup_sample masks weight rotations lookup after charges largest External.charge precision words bytes ones all_below
+unfolding encrypt_selector_block encrypt_selector lookup_sample masks rotations lookup after charges largest External.charge precision words bytes ones all_below
     encrypted_block encrypted_row encryption body joined tabulate masked sum product
     looked_up blind_rotation tree_sample tree trivial message encode cmux_sample polynomials external difference digit rounded
 result_fe = refl
 
 pub noise_fe :
     distance (phase 1 1 (words key_j) (words (lookup_sample job_fe)) 0) (12 * 2 ^ 28) ≡ 9052
-unfolding encrypt_selector_block encrypt_selector lookup_sample masks weight rotations lookup after charges largest External.charge precision words bytes ones all_below
+unfolding encrypt_selector_block encrypt_selector lookup_sample masks rotations lookup after charges largest External.charge precision words bytes ones all_below
     encrypted_block encrypted_row encryption body joined tabulate masked sum product
     looked_up blind_rotation tree_sample tree trivial message encode cmux_sample polynomials external difference digit rounded phase magnitude
 noise_fe = refl
@@ -228,20 +228,20 @@ large = record { N = 1024; k = 1; g = 8; L = 2; W = 1024 }
 
 -- "Job J with amplitude 1023 has bound 134086656, accepted".
 pub accepted_1023 : number (lookup (limit_j 1023)) ≡ 0
-unfolding masks weight rotations lookup charges largest sum External.charge precision words bytes ones all_below
+unfolding masks rotations lookup charges largest sum External.charge precision words bytes ones all_below
 accepted_1023 = refl
 
 pub bound_1023 : bound (lookup (limit_j 1023)) ≡ 134086656
-unfolding masks weight rotations lookup charges largest sum External.charge precision words bytes ones all_below
+unfolding masks rotations lookup charges largest sum External.charge precision words bytes ones all_below
 bound_1023 = refl
 
 -- "with 1024, 134217728, answer 9"
 pub refused_1024 : number (lookup (limit_j 1024)) ≡ 9
-unfolding masks weight rotations lookup charges largest sum External.charge precision words bytes ones all_below
+unfolding masks rotations lookup charges largest sum External.charge precision words bytes ones all_below
 refused_1024 = refl
 
 pub bound_1024 : bound (lookup (limit_j 1024)) ≡ 134217728
-unfolding masks weight rotations lookup charges largest sum External.charge precision words bytes ones all_below
+unfolding masks rotations lookup charges largest sum External.charge precision words bytes ones all_below
 bound_1024 = refl
 
 -- "With N = 1,024, g = 8, L = 2, amplitude 1 and M = 16 a charge is 34111488".

@@ -3,4 +3,6 @@ pub mod Instance
 pub mod PackedInstance
 pub mod PackingInstances
 pub mod HiddenInstances
+pub mod ThinKey
+pub mod WeightInstance
 pub mod FileInstance

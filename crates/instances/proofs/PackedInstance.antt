@@ -29,7 +29,8 @@ use Rattle.trees.specs.Tree.{tree, entry_number}
 use Rattle.tables.specs.declared.Packing.TheVariants.{Horizontal}
 use Rattle.tables.specs.declared.Visibility.TheVariants.{Public}
 use Rattle.tables.specs.declared.Numbers.{Numbers}
-use Rattle.trgsw.specs.Parameters.{SchemeKey, masks, weight}
+use Rattle.trgsw.specs.Parameters.{SchemeKey, masks}
+use Rattle.trgsw.proofs.Told.{every_key}
 use Rattle.tables.specs.Numbers.{rotations}
 use Rattle.trees.specs.LookedUp.{tree_sample, blind_rotation, looked_up, largest, charges}
 use Rattle.lookup.specs.Job.{Job}
@@ -59,7 +60,7 @@ is_key_p = record {
 
 pub keyed_p : SchemeKey (Parameters.scheme_of 2 8 2) key_p
 unfolding masks
-keyed_p = is_key_p
+keyed_p = every_key (Parameters.scheme_of 2 8 2) key_p (le_refl 2) is_key_p
 
 -- A slice for a block of degree 2, with g = 8 and L = 2.
 abbrev pub block_room_p : List ℕ
@@ -130,17 +131,17 @@ job_p = record { numbers = numbers_p; blocks = blocks_p; amplitudes = amplitudes
 
 -- The lookup is accepted, with the sum of two charges and three gates. A charge is 1024 times the amplitude, and 3 times 2^15.
 pub accepted_p : number (lookup job_p) ≡ 0
-unfolding encrypt_selector_block encrypt_selector masks weight rotations lookup after charges largest External.charge precision words bytes ones all_below
+unfolding encrypt_selector_block encrypt_selector masks rotations lookup after charges largest External.charge precision words bytes ones all_below
     encrypted_block encrypted_row encryption body joined tabulate masked sum product
 accepted_p = refl
 
 pub bound_p : bound (lookup job_p) ≡ 205824
-unfolding encrypt_selector_block encrypt_selector masks weight rotations lookup after charges largest External.charge precision words bytes ones all_below
+unfolding encrypt_selector_block encrypt_selector masks rotations lookup after charges largest External.charge precision words bytes ones all_below
     encrypted_block encrypted_row encryption body joined tabulate masked sum product
 bound_p = refl
 
 pub gates_p : gates (lookup job_p) ≡ 3
-unfolding encrypt_selector_block encrypt_selector masks weight rotations lookup after charges largest External.charge precision words bytes ones all_below
+unfolding encrypt_selector_block encrypt_selector masks rotations lookup after charges largest External.charge precision words bytes ones all_below
     encrypted_block encrypted_row encryption body joined tabulate masked sum product
 gates_p = refl
 
@@ -209,7 +210,7 @@ rule_p =
 
 -- Its mask is not 0, and neither is its noise. In coefficient 0 it is above 9216, what the amplitudes are charged: there is rounding in it.
 pub result_p_words : words result_p ≡ 2773553129 ∷ 3796587218 ∷ 1124383607 ∷ 2006737680 ∷ []
-unfolding encrypt_selector_block encrypt_selector lookup_sample masks weight rotations lookup after charges largest External.charge precision words bytes ones all_below
+unfolding encrypt_selector_block encrypt_selector lookup_sample masks rotations lookup after charges largest External.charge precision words bytes ones all_below
     encrypted_block encrypted_row encryption body joined tabulate masked sum product
     looked_up blind_rotation tree_sample tree trivial message encode cmux_sample polynomials external difference digit rounded
 result_p_words = refl
@@ -217,7 +218,7 @@ result_p_words = refl
 pub noise_p :
     (distance (phase 2 1 (words key_p) (words result_p) 0) (8 * 2 ^ 28) ≡ 65952)
     × (distance (phase 2 1 (words key_p) (words result_p) 1) (15 * 2 ^ 28) ≡ 85)
-unfolding encrypt_selector_block encrypt_selector lookup_sample masks weight rotations lookup after charges largest External.charge precision words bytes ones all_below
+unfolding encrypt_selector_block encrypt_selector lookup_sample masks rotations lookup after charges largest External.charge precision words bytes ones all_below
     encrypted_block encrypted_row encryption body joined tabulate masked sum product
     looked_up blind_rotation tree_sample tree trivial message encode cmux_sample polynomials external difference digit rounded phase magnitude
 noise_p = (refl, refl)

@@ -32,7 +32,8 @@ use Rattle.tables.specs.declared.Packing.{Packing}
 use Rattle.tables.specs.declared.Packing.TheVariants.{Horizontal, Vertical}
 use Rattle.tables.specs.declared.Visibility.TheVariants.{Public}
 use Rattle.tables.specs.declared.Numbers.{Numbers}
-use Rattle.trgsw.specs.Parameters.{SchemeKey, masks, weight}
+use Rattle.trgsw.specs.Parameters.{SchemeKey, masks}
+use Rattle.trgsw.proofs.Told.{every_key}
 use Rattle.tables.specs.Numbers.{rotations}
 use Rattle.trees.specs.LookedUp.{tree_sample, rotation_step, blind_rotation, looked_up, largest, charges}
 use Rattle.lookup.specs.Job.{Job}
@@ -84,17 +85,17 @@ job_above = record {
 
 -- The lookup is accepted, with the sum of two charges, one gate of the tree and one of the rotation.
 accepted_above : IsAccepted job_above
-unfolding encrypt_selector_block encrypt_selector masks weight rotations lookup after charges largest External.charge precision words bytes ones count_trailing_zeros
+unfolding encrypt_selector_block encrypt_selector masks rotations lookup after charges largest External.charge precision words bytes ones count_trailing_zeros
     all_below encrypted_block encrypted_row encryption body joined tabulate masked sum product
 accepted_above = refl
 
 pub bound_above : bound (lookup job_above) ≡ 203776
-unfolding encrypt_selector_block encrypt_selector masks weight rotations lookup after charges largest External.charge precision words bytes ones count_trailing_zeros
+unfolding encrypt_selector_block encrypt_selector masks rotations lookup after charges largest External.charge precision words bytes ones count_trailing_zeros
     all_below encrypted_block encrypted_row encryption body joined tabulate masked sum product
 bound_above = refl
 
 pub gates_above : gates (lookup job_above) ≡ 2
-unfolding encrypt_selector_block encrypt_selector masks weight rotations lookup after charges largest External.charge precision words bytes ones count_trailing_zeros
+unfolding encrypt_selector_block encrypt_selector masks rotations lookup after charges largest External.charge precision words bytes ones count_trailing_zeros
     all_below encrypted_block encrypted_row encryption body joined tabulate masked sum product
 gates_above = refl
 
@@ -147,7 +148,7 @@ rule_above =
 
 -- Its noise is not 0.
 pub noise_above : distance (phase 2 1 (words key_p) (words (lookup_sample job_above)) 0) (14 * 2 ^ 28) ≡ 11
-unfolding encrypt_selector_block encrypt_selector lookup_sample masks weight rotations lookup after charges largest External.charge precision words bytes ones
+unfolding encrypt_selector_block encrypt_selector lookup_sample masks rotations lookup after charges largest External.charge precision words bytes ones
     count_trailing_zeros all_below encrypted_block encrypted_row encryption body joined tabulate masked sum product looked_up blind_rotation rotation_step rotated_sample
     rotated tree_sample tree trivial message encode cmux_sample polynomials external difference digit rounded phase magnitude
 noise_above = refl
@@ -187,32 +188,32 @@ encrypted_one q = record {
 
 -- Both are accepted, with one charge and one gate: of the rotation, or of the tree.
 accepted_equal : IsAccepted (job_one Vertical)
-unfolding encrypt_selector_block encrypt_selector masks weight rotations lookup after charges largest External.charge precision words bytes ones count_trailing_zeros
+unfolding encrypt_selector_block encrypt_selector masks rotations lookup after charges largest External.charge precision words bytes ones count_trailing_zeros
     all_below encrypted_block encrypted_row encryption body joined tabulate masked sum product
 accepted_equal = refl
 
 pub bound_equal : bound (lookup (job_one Vertical)) ≡ 101376
-unfolding encrypt_selector_block encrypt_selector masks weight rotations lookup after charges largest External.charge precision words bytes ones count_trailing_zeros
+unfolding encrypt_selector_block encrypt_selector masks rotations lookup after charges largest External.charge precision words bytes ones count_trailing_zeros
     all_below encrypted_block encrypted_row encryption body joined tabulate masked sum product
 bound_equal = refl
 
 pub gates_equal : gates (lookup (job_one Vertical)) ≡ 1
-unfolding encrypt_selector_block encrypt_selector masks weight rotations lookup after charges largest External.charge precision words bytes ones count_trailing_zeros
+unfolding encrypt_selector_block encrypt_selector masks rotations lookup after charges largest External.charge precision words bytes ones count_trailing_zeros
     all_below encrypted_block encrypted_row encryption body joined tabulate masked sum product
 gates_equal = refl
 
 accepted_few : IsAccepted (job_one Horizontal)
-unfolding encrypt_selector_block encrypt_selector masks weight rotations lookup after charges largest External.charge precision words bytes ones count_trailing_zeros
+unfolding encrypt_selector_block encrypt_selector masks rotations lookup after charges largest External.charge precision words bytes ones count_trailing_zeros
     all_below encrypted_block encrypted_row encryption body joined tabulate masked sum product
 accepted_few = refl
 
 pub bound_few : bound (lookup (job_one Horizontal)) ≡ 101376
-unfolding encrypt_selector_block encrypt_selector masks weight rotations lookup after charges largest External.charge precision words bytes ones count_trailing_zeros
+unfolding encrypt_selector_block encrypt_selector masks rotations lookup after charges largest External.charge precision words bytes ones count_trailing_zeros
     all_below encrypted_block encrypted_row encryption body joined tabulate masked sum product
 bound_few = refl
 
 pub gates_few : gates (lookup (job_one Horizontal)) ≡ 1
-unfolding encrypt_selector_block encrypt_selector masks weight rotations lookup after charges largest External.charge precision words bytes ones count_trailing_zeros
+unfolding encrypt_selector_block encrypt_selector masks rotations lookup after charges largest External.charge precision words bytes ones count_trailing_zeros
     all_below encrypted_block encrypted_row encryption body joined tabulate masked sum product
 gates_few = refl
 
@@ -229,7 +230,7 @@ rule_equal =
 
 -- Its noise is not 0.
 pub noise_equal : distance (phase 2 1 (words key_p) (words (lookup_sample (job_one Vertical))) 0) (9 * 2 ^ 28) ≡ 160
-unfolding encrypt_selector_block encrypt_selector lookup_sample masks weight rotations lookup after charges largest External.charge precision words bytes ones
+unfolding encrypt_selector_block encrypt_selector lookup_sample masks rotations lookup after charges largest External.charge precision words bytes ones
     count_trailing_zeros all_below encrypted_block encrypted_row encryption body joined tabulate masked sum product looked_up blind_rotation rotation_step rotated_sample
     rotated tree_sample tree trivial message encode cmux_sample polynomials external difference digit rounded phase magnitude
 noise_equal = refl
@@ -254,7 +255,7 @@ rule_few =
 pub noise_few :
     (distance (phase 2 1 (words key_p) (words (lookup_sample (job_one Horizontal))) 0) (9 * 2 ^ 28) ≡ 64)
     × (distance (phase 2 1 (words key_p) (words (lookup_sample (job_one Horizontal))) 1) 0 ≡ 192)
-unfolding encrypt_selector_block encrypt_selector lookup_sample masks weight rotations lookup after charges largest External.charge precision words bytes ones
+unfolding encrypt_selector_block encrypt_selector lookup_sample masks rotations lookup after charges largest External.charge precision words bytes ones
     count_trailing_zeros all_below encrypted_block encrypted_row encryption body joined tabulate masked sum product looked_up blind_rotation rotation_step rotated_sample
     rotated tree_sample tree trivial message encode cmux_sample polynomials external difference digit rounded phase magnitude
 noise_few = (refl, refl)
@@ -282,7 +283,7 @@ is_key_b = record {
 
 keyed_b : SchemeKey (Parameters.scheme_of 4 8 2) key_b
 unfolding masks
-keyed_b = is_key_b
+keyed_b = every_key (Parameters.scheme_of 4 8 2) key_b (le_refl 4) is_key_b
 
 -- A block of degree 4 that encrypts 1: its masks, and the errors 1, -2, 0, 3, -1, 2, 1, -3, 0, 2, -2, 1, 3, 0, -1, 2.
 abbrev pub masks_b : List ℕ
@@ -319,17 +320,17 @@ job_below = record {
 
 -- The lookup is accepted, with one charge and one gate.
 accepted_below : IsAccepted job_below
-unfolding encrypt_selector_block encrypt_selector masks weight rotations lookup after charges largest External.charge precision words bytes ones count_trailing_zeros
+unfolding encrypt_selector_block encrypt_selector masks rotations lookup after charges largest External.charge precision words bytes ones count_trailing_zeros
     all_below encrypted_block encrypted_row encryption body joined tabulate masked sum product
 accepted_below = refl
 
 pub bound_below : bound (lookup job_below) ≡ 169984
-unfolding encrypt_selector_block encrypt_selector masks weight rotations lookup after charges largest External.charge precision words bytes ones count_trailing_zeros
+unfolding encrypt_selector_block encrypt_selector masks rotations lookup after charges largest External.charge precision words bytes ones count_trailing_zeros
     all_below encrypted_block encrypted_row encryption body joined tabulate masked sum product
 bound_below = refl
 
 pub gates_below : gates (lookup job_below) ≡ 1
-unfolding encrypt_selector_block encrypt_selector masks weight rotations lookup after charges largest External.charge precision words bytes ones count_trailing_zeros
+unfolding encrypt_selector_block encrypt_selector masks rotations lookup after charges largest External.charge precision words bytes ones count_trailing_zeros
     all_below encrypted_block encrypted_row encryption body joined tabulate masked sum product
 gates_below = refl
 
@@ -367,7 +368,7 @@ rule_below =
 
 -- Its noise is not 0.
 pub noise_below : distance (phase 4 1 (words key_b) (words (lookup_sample job_below)) 0) (9 * 2 ^ 28) ≡ 48
-unfolding encrypt_selector_block encrypt_selector lookup_sample masks weight rotations lookup after charges largest External.charge precision words bytes ones
+unfolding encrypt_selector_block encrypt_selector lookup_sample masks rotations lookup after charges largest External.charge precision words bytes ones
     count_trailing_zeros all_below encrypted_block encrypted_row encryption body joined tabulate masked sum product looked_up blind_rotation rotation_step rotated_sample
     rotated tree_sample tree trivial message encode cmux_sample polynomials external difference digit rounded phase magnitude
 noise_below = refl

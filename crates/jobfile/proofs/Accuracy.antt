@@ -1,21 +1,34 @@
 -- Demand 3 for jobs that are read from a file, from the file's bytes to the classes; that nothing lawful is thrown out, and that what is
 -- accepted is a job file.
 -- Assumes nothing.
-use mathlib.Core.Path.{◌≡◌, refl, ap, ◌∙◌}
-use mathlib.Core.Bool.{and-false}
+use mathlib.Core.Path.{◌≡◌, refl, ap, sym, ◌∙◌}
+use mathlib.Core.Bool.{Bool, and-false}
 use mathlib.Core.List.{List}
 use Prim.Native.Nat.{ℕ, ◌≤◌, ◌<◌}
+use native.Mathlib.Omega.{arith}
+use native.Mathlib.Nat.{le_of_eq}
 use lib.Dec.{eqb}
 use lib.ListN.{length}
 use borrow.Author.Tests.{eq-eqb, ne_eqb, lt-ltb, le-ltb}
 use Rattle.torus.specs.Bytes.{AreBytes, words}
 use Rattle.std.specs.Prelude.{Err}
 use Rattle.answers.specs.Answers.{number}
+use Rattle.answers.specs.Checks.{◌or_else◌}
+use Rattle.answers.specs.Checks as Check
 use Rattle.answers.specs.declared.Refusal.TheVariants as Refused
 use Rattle.tables.specs.declared.Packing.TheVariants.{Horizontal, Vertical}
 use Rattle.tables.specs.declared.Visibility.TheVariants.{Public}
-use Rattle.tables.specs.Numbers.{LawfulNumbers}
-use Rattle.lookup.specs.Job.{Job}
+use Rattle.trlwe.specs.Sample.{Key}
+use Rattle.trgsw.specs.Parameters.{masks, SchemeKey, unweighted_refusal}
+use Rattle.trgsw.proofs.Checked.{unweighted_told}
+use Rattle.trgsw.proofs.Told.{every_key}
+use Rattle.gadget.specs.Digits.{is_lawful}
+use Rattle.ring.specs.Polynomial.{is_degree}
+use Rattle.answers.proofs.Laws.{check_most, first_most, past_other}
+use Rattle.tables.proofs.Passed.{sizes, sizes_most}
+use Rattle.lookup.proofs.Accepted.{lookup_twelve}
+use Rattle.tables.specs.Numbers.{most_classes, most_selectors, LawfulNumbers, numbers}
+use Rattle.lookup.specs.Job.{Job, weighing}
 use Rattle.lookup.specs.Calls.{lookup, IsAccepted}
 use Rattle.accuracy.specs.Rule.{Premises, Accurate, AccurateHorizontal, AccurateVertical, Encrypted}
 use Rattle.accuracy.proofs.Accuracy.{accuracy_public, accurate_horizontal, accurate_vertical}
@@ -23,7 +36,7 @@ use Rattle.accuracy.proofs.Told.{public_tells}
 use Rattle.accuracy.proofs.EndToEnd.{encrypted_lookup}
 use Rattle.jobfile.specs.Layout.{largest_file}
 use Rattle.jobfile.specs.File.{file_packing, job_file, Whole, WellFormed}
-use Rattle.jobfile.specs.Reader.{Begins, read_job, job_answer, job_sample}
+use Rattle.jobfile.specs.Reader.{Begins, read_job, beginning, table_count, sections, file_refusal, job_answer, job_sample}
 use Rattle.jobfile.proofs.Passed.{refused_sections}
 use Rattle.jobfile.proofs.Held.{answer_lookup}
 use Rattle.jobfile.proofs.Texts.{accepted_lookup, accepted_sample}
@@ -73,6 +86,48 @@ packing_other s d other = rw (ne_eqb s 1 other)
 pub packing_many : (s d : ℕ) → s ≡ 1 → 10 < d → file_packing s d ≡ Vertical
 unfolding file_packing
 packing_many s d one many = rw (eq-eqb s 1 one, lt-ltb 10 d many)
+
+-- ---- the weight
+
+-- "Job files mean W = N": a file that passes its checks is answered as the lookup that declares this weight.
+pub file_weight : (file : List ℕ) → let j = read_job file in job_answer file ≡ (file_refusal file or_else lookup (weighing j j.numbers.scheme.N))
+unfolding job_answer read_job
+file_weight file = refl
+
+pub file_full : (file : List ℕ) → (read_job file).numbers.scheme.W ≡ (read_job file).numbers.scheme.N
+unfolding read_job
+file_full file = refl
+
+-- So its numbers are judged by "refusals 1 to 4" alone, without 12,
+pub file_judged : (file : List ℕ) → let x = (read_job file).numbers in
+    (unweighted_refusal x.scheme.N x.scheme.g x.scheme.L or_else Check.class_number x.M
+    or_else Check.count (most_classes x.packing x.scheme.N) x.s or_else Check.depth (most_selectors x.packing) x.d) ≡ numbers x
+unfolding read_job
+file_judged file = rw (unweighted_told _ _ _) refl
+
+-- which no file is answered;
+file_most : (file : List ℕ) → number (file_refusal file) ≤ 5
+unfolding file_refusal
+file_most file =
+    let x = (read_job file).numbers in
+    let first : number (unweighted_refusal x.scheme.N x.scheme.g x.scheme.L) ≤ 5 =
+    first_most _ _ 5 (check_most (is_degree x.scheme.N) Refused.Degree 5 (omega arith)) (check_most (is_lawful x.scheme.g x.scheme.L) Refused.Gadget 5 (omega arith)) in
+    let judged : number (numbers x) ≤ 5 =
+    rw (sym (file_judged file)) (first_most _ (sizes x) 5 first (omega (arith, sizes_most x))) in
+    let five : (t : Bool) → number (Check.unless t Refused.Length) ≤ 5 = λ t. check_most t Refused.Length 5 (omega arith) in
+    first_most (beginning file) _ 5 (five _)
+    (first_most (numbers x) (sections x file) 5 judged (first_most (Check.exact (length file) _) (table_count x file) 5 (five _) (five _)))
+
+pub file_twelve : (file : List ℕ) → number (job_answer file) ≡ 12 → ⊥
+unfolding job_answer
+file_twelve file e =
+    let p = past_other (file_refusal file) 12 (lookup (read_job file)) (λ n. omega (arith, file_most file, n)) e in
+    let heavy = (lookup_twelve (read_job file) p.1).1 in
+    omega (arith, heavy, file_full file)
+
+-- and every key is one of its keys.
+pub file_key : (file key : List ℕ) → let x = (read_job file).numbers.scheme in Key x.N (masks x) key → SchemeKey x key
+file_key file key = every_key (read_job file).numbers.scheme key (le_of_eq (sym (file_full file)))
 
 -- ---- the accuracy rule
 

@@ -17,7 +17,7 @@ use Rattle.jobfile.specs.Layout.{largest_file}
 unfoldable pub file_packing : (s d : ℕ) → Packing
 file_packing s d = cond (eqb s 1 && ltb horizontal_selectors d) Vertical Horizontal
 
--- The numbers of a file's job, by those that stand in it: "Job files still carry public tables".
+-- The numbers of a file's job, by those that stand in it: "Job files still carry public tables", and "Job files mean W = N".
 abbrev pub file_numbers : (N g L M s d : ℕ) → Numbers
 file_numbers N g L M s d = record {
   packing = file_packing s d;
@@ -56,7 +56,8 @@ file_job x blocks amplitudes classes =
     (replicate (4 * sample_size (parameters x.scheme)) 0) (replicate (4 * (sample_size (parameters x.scheme) * (x.d + 1))) 0)
 
 -- A job that a file can be made of: it has the packing of a file with its s and d, its numbers are words, and its parts are of bytes and
--- have the lengths that these numbers give. So a job in the vertical packing with d up to 10 has no file.
+-- have the lengths that these numbers give. So a job in the vertical packing with d up to 10 has no file, nor has one that declares a weight
+-- below N.
 pub record Whole (j : Job) : Type 0 where
   pub numbers : let x = j.numbers in x ≡ file_numbers x.scheme.N x.scheme.g x.scheme.L x.M x.s x.d
   pub of_words : (i : ℕ) → get_or (file_words j) i 0 < 2 ^ 32

@@ -74,7 +74,8 @@ table_count x file = Check.unless (eqb (get_or (table_part (block_size (paramete
 abbrev pub sections : (x : Numbers) (file : List ℕ) → Checked
 sections x file = Check.exact (length file) (file_size (first_count (words file)) x) or_else table_count x file
 
--- What refuses a file before its lookup begins: its beginning, then "Refusals 1 to 4 follow", then its sections.
+-- What refuses a file before its lookup begins: its beginning, then "Refusals 1 to 4 follow", then its sections. 12, which stands among these
+-- numbers, does not apply: W is N.
 unfoldable pub file_refusal : (file : List ℕ) → Checked
 file_refusal file =
     let x = (read_job file).numbers in

@@ -12,13 +12,13 @@ use Rattle.answers.specs.Checks.{passed, ◌or_else◌}
 use Rattle.answers.specs.Checks as Check
 use Rattle.answers.specs.Answers.{number, noise}
 use Rattle.answers.specs.declared.Refusal.TheVariants as Refused
-use Rattle.answers.proofs.Laws.{both_passed, both_pass, or_else_assoc, check_other, first_other, exact_held, exact_met, amplitudes_held, amplitudes_met}
+use Rattle.answers.proofs.Laws.{both_passed, both_pass, or_else_assoc, check_most, first_most, exact_held, exact_met, amplitudes_held, amplitudes_met}
 use Rattle.trgsw.specs.Parameters.{parameters, sample_size, block_size}
 use Rattle.tables.specs.Numbers.{table_words, declared_words, gate_count, numbers}
 use Rattle.lookup.specs.Job.{Job}
 use Rattle.tables.specs.Table.{classes_of}
 use Rattle.tables.specs.Inner.{Below}
-use Rattle.tables.proofs.Passed.{classes_of_held, classes_of_met, classes_of_other}
+use Rattle.tables.proofs.Passed.{classes_of_held, classes_of_met, classes_of_most}
 use Rattle.lookup.specs.Calls.{noise_bound, lookup}
 use Rattle.lookup.specs.Inner.{lengths, contents, checks}
 
@@ -63,12 +63,12 @@ module _ (j : Job) where
       (both_pass _ _ (exact_met _ _ ok.table_length) (both_pass _ _ (exact_met _ _ ok.entry_amplitudes_length)
       (both_pass _ _ (exact_met _ _ ok.sample_length) (exact_met _ _ ok.work_length)))))
 
-  pub lengths_other : number (lengths j) ≡ 9 → ⊥
-  lengths_other =
-      let five : (length words : ℕ) → number (Check.exact length words) ≡ 9 → ⊥ = λ length words. check_other (eqb length (4 * words)) Refused.Length 9 (omega arith) (λ e. omega arith) in
-      first_other _ _ 9 (five (length j.blocks) _) (first_other _ _ 9 (five (length j.amplitudes) _)
-      (first_other _ _ 9 (five (length j.table) _) (first_other _ _ 9 (five (length j.entry_amplitudes) _)
-      (first_other _ _ 9 (five (length j.sample) _) (five (length j.work) _)))))
+  pub lengths_most : number (lengths j) ≤ 5
+  lengths_most =
+      let five : (length words : ℕ) → number (Check.exact length words) ≤ 5 = λ length words. check_most (eqb length (4 * words)) Refused.Length 5 (omega arith) in
+      first_most _ _ 5 (five (length j.blocks) _) (first_most _ _ 5 (five (length j.amplitudes) _)
+      (first_most _ _ 5 (five (length j.table) _) (first_most _ _ 5 (five (length j.entry_amplitudes) _)
+      (first_most _ _ 5 (five (length j.sample) _) (five (length j.work) _)))))
 
   -- ---- the words in them
 
@@ -89,11 +89,11 @@ module _ (j : Job) where
       (both_pass _ _ (amplitudes_met (words j.entry_amplitudes) ok.entries_small)
       (classes_of_met j.numbers.visibility j.numbers.M (words j.table) ok.below))
 
-  pub contents_other : number (contents j) ≡ 9 → ⊥
-  contents_other =
-      let six : (ws : List ℕ) → number (Check.amplitudes ws) ≡ 9 → ⊥ = λ ws. check_other (Check.all_below (2 ^ 31 + 1) ws) Refused.Amplitude 9 (omega arith) (λ e. omega arith) in
-      first_other _ _ 9 (six (words j.amplitudes))
-      (first_other _ _ 9 (six (words j.entry_amplitudes)) (classes_of_other j.numbers.visibility j.numbers.M (words j.table)))
+  pub contents_most : number (contents j) ≤ 7
+  contents_most =
+      let six : (ws : List ℕ) → number (Check.amplitudes ws) ≤ 7 = λ ws. check_most (Check.all_below (2 ^ 31 + 1) ws) Refused.Amplitude 7 (omega arith) in
+      first_most _ _ 7 (six (words j.amplitudes))
+      (first_most _ _ 7 (six (words j.entry_amplitudes)) (classes_of_most j.numbers.visibility j.numbers.M (words j.table)))
 
 -- ---- the whole answer
 

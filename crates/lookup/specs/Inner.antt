@@ -45,6 +45,6 @@ contents j =
     Check.amplitudes (words j.amplitudes) or_else Check.amplitudes (words j.entry_amplitudes)
     or_else classes_of j.numbers.visibility j.numbers.M (words j.table)
 
--- Refusals 1 to 7.
+-- The refusals up to 7.
 abbrev pub checks : Job → Checked
 checks j = numbers j.numbers or_else lengths j or_else contents j

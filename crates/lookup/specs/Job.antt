@@ -48,6 +48,10 @@ public_job x blocks amplitudes classes sample work = record {
 abbrev pub declaring : (j : Job) (amplitudes : List ℕ) → Job
 declaring j amplitudes = record j { amplitudes = amplitudes }
 
+-- The same job with another weight declared of its key.
+abbrev pub weighing : (j : Job) (W : ℕ) → Job
+weighing j W = record j { numbers = record j.numbers { scheme = record j.numbers.scheme { W = W } } }
+
 -- The same job with other slices to write.
 abbrev pub lending : (j : Job) (sample work : List ℕ) → Job
 lending j sample work = record j { sample = sample; work = work }

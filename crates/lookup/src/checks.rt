@@ -40,7 +40,7 @@ pub fn check_contents(lent: &Lent) -> Checked
     lent.numbers.check_classes(lent.table)
 }
 
-// 1 to 7.
+// All but 9.
 pub fn check(lent: &Lent, sample: &[u8], work: &[u8]) -> Checked
     ensures { result ≡ Inner.checks (job_of lent.now sample.now work.now) }
 {

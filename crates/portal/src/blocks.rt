@@ -1,7 +1,6 @@
 // The calls on selector blocks (TRGSW).
 ghost use Rattle.std.specs.Prelude.{◌≡◌};
 ghost use Rattle.answers.specs.Answers.{number, bound, gates};
-ghost use Rattle.trgsw.specs.Parameters.{scheme_of};
 ghost use Rattle.selectors.specs.Calls as Selectors;
 ghost use Rattle.gates.specs.Calls as Gates;
 
@@ -20,7 +19,9 @@ pub extern "C" fn cikenuma_encrypt_selector(
     block: &mut [u8],
 ) -> u32
     ensures { (let c : Selectors.SelectorInput = record {
-      scheme = scheme_of n g l;
+      N = n;
+      g = g;
+      L = l;
       bit = bit;
       key = key.now;
       masks = masks.now;
@@ -30,7 +31,9 @@ pub extern "C" fn cikenuma_encrypt_selector(
         (result ≡ number (Selectors.encrypt_selector c)) × (block.new ≡ Selectors.encrypt_selector_block c)) }
 {
     let lent = selectors::Lent {
-        scheme: Scheme::new(n, g, l),
+        N: n,
+        g,
+        L: l,
         bit,
         key,
         masks,
@@ -51,7 +54,9 @@ pub extern "C" fn cikenuma_encrypt_selector_bound(
     block: &[u8],
 ) -> u64
     ensures { result ≡ bound (Selectors.encrypt_selector (record {
-      scheme = scheme_of n g l;
+      N = n;
+      g = g;
+      L = l;
       bit = bit;
       key = key.now;
       masks = masks.now;
@@ -60,7 +65,9 @@ pub extern "C" fn cikenuma_encrypt_selector_bound(
     })) }
 {
     let lent = selectors::Lent {
-        scheme: Scheme::new(n, g, l),
+        N: n,
+        g,
+        L: l,
         bit,
         key,
         masks,
@@ -81,7 +88,9 @@ pub extern "C" fn cikenuma_encrypt_selector_gates(
     block: &[u8],
 ) -> u64
     ensures { result ≡ gates (Selectors.encrypt_selector (record {
-      scheme = scheme_of n g l;
+      N = n;
+      g = g;
+      L = l;
       bit = bit;
       key = key.now;
       masks = masks.now;
@@ -90,7 +99,9 @@ pub extern "C" fn cikenuma_encrypt_selector_gates(
     })) }
 {
     let lent = selectors::Lent {
-        scheme: Scheme::new(n, g, l),
+        N: n,
+        g,
+        L: l,
         bit,
         key,
         masks,
@@ -104,6 +115,7 @@ pub extern "C" fn cikenuma_external_product(
     n: u64,
     g: u64,
     l: u64,
+    w: u64,
     amplitude: u64,
     sample_amplitude: u64,
     block: &[u8],
@@ -111,7 +123,7 @@ pub extern "C" fn cikenuma_external_product(
     out: &mut [u8],
 ) -> u32
     ensures { (let c : Gates.ProductInput = record {
-      scheme = scheme_of n g l;
+      scheme = record { N = n; g = g; L = l; W = w };
       amplitude = amplitude;
       sample_amplitude = «sample_amplitude»;
       block = block.now;
@@ -121,7 +133,12 @@ pub extern "C" fn cikenuma_external_product(
         (result ≡ number (Gates.external_product c)) × (out.new ≡ Gates.external_product_out c)) }
 {
     let lent = external::Lent {
-        scheme: Scheme::new(n, g, l),
+        scheme: Scheme {
+            N: n,
+            g,
+            L: l,
+            W: w,
+        },
         amplitude,
         sample_amplitude,
         block,
@@ -135,6 +152,7 @@ pub extern "C" fn cikenuma_external_product_bound(
     n: u64,
     g: u64,
     l: u64,
+    w: u64,
     amplitude: u64,
     sample_amplitude: u64,
     block: &[u8],
@@ -142,7 +160,7 @@ pub extern "C" fn cikenuma_external_product_bound(
     out: &[u8],
 ) -> u64
     ensures { result ≡ bound (Gates.external_product (record {
-      scheme = scheme_of n g l;
+      scheme = record { N = n; g = g; L = l; W = w };
       amplitude = amplitude;
       sample_amplitude = «sample_amplitude»;
       block = block.now;
@@ -151,7 +169,12 @@ pub extern "C" fn cikenuma_external_product_bound(
     })) }
 {
     let lent = external::Lent {
-        scheme: Scheme::new(n, g, l),
+        scheme: Scheme {
+            N: n,
+            g,
+            L: l,
+            W: w,
+        },
         amplitude,
         sample_amplitude,
         block,
@@ -165,6 +188,7 @@ pub extern "C" fn cikenuma_external_product_gates(
     n: u64,
     g: u64,
     l: u64,
+    w: u64,
     amplitude: u64,
     sample_amplitude: u64,
     block: &[u8],
@@ -172,7 +196,7 @@ pub extern "C" fn cikenuma_external_product_gates(
     out: &[u8],
 ) -> u64
     ensures { result ≡ gates (Gates.external_product (record {
-      scheme = scheme_of n g l;
+      scheme = record { N = n; g = g; L = l; W = w };
       amplitude = amplitude;
       sample_amplitude = «sample_amplitude»;
       block = block.now;
@@ -181,7 +205,12 @@ pub extern "C" fn cikenuma_external_product_gates(
     })) }
 {
     let lent = external::Lent {
-        scheme: Scheme::new(n, g, l),
+        scheme: Scheme {
+            N: n,
+            g,
+            L: l,
+            W: w,
+        },
         amplitude,
         sample_amplitude,
         block,
@@ -195,6 +224,7 @@ pub extern "C" fn cikenuma_cmux(
     n: u64,
     g: u64,
     l: u64,
+    w: u64,
     amplitude: u64,
     amplitude0: u64,
     amplitude1: u64,
@@ -204,7 +234,7 @@ pub extern "C" fn cikenuma_cmux(
     out: &mut [u8],
 ) -> u32
     ensures { (let c : Gates.CMuxInput = record {
-      scheme = scheme_of n g l;
+      scheme = record { N = n; g = g; L = l; W = w };
       amplitude = amplitude;
       amplitude₀ = amplitude0;
       amplitude₁ = amplitude1;
@@ -216,7 +246,12 @@ pub extern "C" fn cikenuma_cmux(
         (result ≡ number (Gates.cmux c)) × (out.new ≡ Gates.cmux_out c)) }
 {
     let lent = cmux::Lent {
-        scheme: Scheme::new(n, g, l),
+        scheme: Scheme {
+            N: n,
+            g,
+            L: l,
+            W: w,
+        },
         amplitude,
         amplitude0,
         amplitude1,
@@ -232,6 +267,7 @@ pub extern "C" fn cikenuma_cmux_bound(
     n: u64,
     g: u64,
     l: u64,
+    w: u64,
     amplitude: u64,
     amplitude0: u64,
     amplitude1: u64,
@@ -241,7 +277,7 @@ pub extern "C" fn cikenuma_cmux_bound(
     out: &[u8],
 ) -> u64
     ensures { result ≡ bound (Gates.cmux (record {
-      scheme = scheme_of n g l;
+      scheme = record { N = n; g = g; L = l; W = w };
       amplitude = amplitude;
       amplitude₀ = amplitude0;
       amplitude₁ = amplitude1;
@@ -252,7 +288,12 @@ pub extern "C" fn cikenuma_cmux_bound(
     })) }
 {
     let lent = cmux::Lent {
-        scheme: Scheme::new(n, g, l),
+        scheme: Scheme {
+            N: n,
+            g,
+            L: l,
+            W: w,
+        },
         amplitude,
         amplitude0,
         amplitude1,
@@ -268,6 +309,7 @@ pub extern "C" fn cikenuma_cmux_gates(
     n: u64,
     g: u64,
     l: u64,
+    w: u64,
     amplitude: u64,
     amplitude0: u64,
     amplitude1: u64,
@@ -277,7 +319,7 @@ pub extern "C" fn cikenuma_cmux_gates(
     out: &[u8],
 ) -> u64
     ensures { result ≡ gates (Gates.cmux (record {
-      scheme = scheme_of n g l;
+      scheme = record { N = n; g = g; L = l; W = w };
       amplitude = amplitude;
       amplitude₀ = amplitude0;
       amplitude₁ = amplitude1;
@@ -288,7 +330,12 @@ pub extern "C" fn cikenuma_cmux_gates(
     })) }
 {
     let lent = cmux::Lent {
-        scheme: Scheme::new(n, g, l),
+        scheme: Scheme {
+            N: n,
+            g,
+            L: l,
+            W: w,
+        },
         amplitude,
         amplitude0,
         amplitude1,

@@ -1,7 +1,6 @@
 // The lookups in hidden tables, one in each packing.
 ghost use Rattle.std.specs.Prelude.{◌≡◌};
 ghost use Rattle.answers.specs.Answers.{number, bound, gates};
-ghost use Rattle.trgsw.specs.Parameters.{scheme_of};
 ghost use Rattle.tables.specs.declared.Packing.TheVariants.{Horizontal, Vertical};
 ghost use Rattle.tables.specs.declared.Visibility.TheVariants.{Hidden};
 ghost use Rattle.lookup.specs.Job.{Job};
@@ -17,6 +16,7 @@ pub extern "C" fn cikenuma_lookup_hidden(
     n: u64,
     g: u64,
     l: u64,
+    w: u64,
     m: u64,
     s: u64,
     d: u64,
@@ -28,7 +28,7 @@ pub extern "C" fn cikenuma_lookup_hidden(
     work: &mut [u8],
 ) -> u32
     ensures { (let j : Job = record {
-      numbers = record { packing = Horizontal; visibility = Hidden; scheme = scheme_of n g l; M = m; s = s; d = d };
+      numbers = record { packing = Horizontal; visibility = Hidden; scheme = record { N = n; g = g; L = l; W = w }; M = m; s = s; d = d };
       blocks = blocks.now;
       amplitudes = amplitudes.now;
       table = samples.now;
@@ -39,7 +39,7 @@ pub extern "C" fn cikenuma_lookup_hidden(
         (result ≡ number (Lookups.lookup j)) × (sample.new ≡ Lookups.lookup_sample j) × (work.new ≡ Lookups.lookup_work j)) }
 {
     let lent = Lent {
-        numbers: numbers(Horizontal, Hidden, n, g, l, m, s, d),
+        numbers: numbers(Horizontal, Hidden, n, g, l, w, m, s, d),
         blocks,
         amplitudes,
         table: samples,
@@ -53,6 +53,7 @@ pub extern "C" fn cikenuma_lookup_hidden_bound(
     n: u64,
     g: u64,
     l: u64,
+    w: u64,
     m: u64,
     s: u64,
     d: u64,
@@ -64,7 +65,7 @@ pub extern "C" fn cikenuma_lookup_hidden_bound(
     work: &[u8],
 ) -> u64
     ensures { result ≡ bound (Lookups.lookup (record {
-      numbers = record { packing = Horizontal; visibility = Hidden; scheme = scheme_of n g l; M = m; s = s; d = d };
+      numbers = record { packing = Horizontal; visibility = Hidden; scheme = record { N = n; g = g; L = l; W = w }; M = m; s = s; d = d };
       blocks = blocks.now;
       amplitudes = amplitudes.now;
       table = samples.now;
@@ -74,7 +75,7 @@ pub extern "C" fn cikenuma_lookup_hidden_bound(
     })) }
 {
     let lent = Lent {
-        numbers: numbers(Horizontal, Hidden, n, g, l, m, s, d),
+        numbers: numbers(Horizontal, Hidden, n, g, l, w, m, s, d),
         blocks,
         amplitudes,
         table: samples,
@@ -88,6 +89,7 @@ pub extern "C" fn cikenuma_lookup_hidden_gates(
     n: u64,
     g: u64,
     l: u64,
+    w: u64,
     m: u64,
     s: u64,
     d: u64,
@@ -99,7 +101,7 @@ pub extern "C" fn cikenuma_lookup_hidden_gates(
     work: &[u8],
 ) -> u64
     ensures { result ≡ gates (Lookups.lookup (record {
-      numbers = record { packing = Horizontal; visibility = Hidden; scheme = scheme_of n g l; M = m; s = s; d = d };
+      numbers = record { packing = Horizontal; visibility = Hidden; scheme = record { N = n; g = g; L = l; W = w }; M = m; s = s; d = d };
       blocks = blocks.now;
       amplitudes = amplitudes.now;
       table = samples.now;
@@ -109,7 +111,7 @@ pub extern "C" fn cikenuma_lookup_hidden_gates(
     })) }
 {
     let lent = Lent {
-        numbers: numbers(Horizontal, Hidden, n, g, l, m, s, d),
+        numbers: numbers(Horizontal, Hidden, n, g, l, w, m, s, d),
         blocks,
         amplitudes,
         table: samples,
@@ -123,6 +125,7 @@ pub extern "C" fn cikenuma_lookup_hidden_vertical(
     n: u64,
     g: u64,
     l: u64,
+    w: u64,
     m: u64,
     s: u64,
     d: u64,
@@ -134,7 +137,7 @@ pub extern "C" fn cikenuma_lookup_hidden_vertical(
     work: &mut [u8],
 ) -> u32
     ensures { (let j : Job = record {
-      numbers = record { packing = Vertical; visibility = Hidden; scheme = scheme_of n g l; M = m; s = s; d = d };
+      numbers = record { packing = Vertical; visibility = Hidden; scheme = record { N = n; g = g; L = l; W = w }; M = m; s = s; d = d };
       blocks = blocks.now;
       amplitudes = amplitudes.now;
       table = samples.now;
@@ -145,7 +148,7 @@ pub extern "C" fn cikenuma_lookup_hidden_vertical(
         (result ≡ number (Lookups.lookup j)) × (sample.new ≡ Lookups.lookup_sample j) × (work.new ≡ Lookups.lookup_work j)) }
 {
     let lent = Lent {
-        numbers: numbers(Vertical, Hidden, n, g, l, m, s, d),
+        numbers: numbers(Vertical, Hidden, n, g, l, w, m, s, d),
         blocks,
         amplitudes,
         table: samples,
@@ -159,6 +162,7 @@ pub extern "C" fn cikenuma_lookup_hidden_vertical_bound(
     n: u64,
     g: u64,
     l: u64,
+    w: u64,
     m: u64,
     s: u64,
     d: u64,
@@ -170,7 +174,7 @@ pub extern "C" fn cikenuma_lookup_hidden_vertical_bound(
     work: &[u8],
 ) -> u64
     ensures { result ≡ bound (Lookups.lookup (record {
-      numbers = record { packing = Vertical; visibility = Hidden; scheme = scheme_of n g l; M = m; s = s; d = d };
+      numbers = record { packing = Vertical; visibility = Hidden; scheme = record { N = n; g = g; L = l; W = w }; M = m; s = s; d = d };
       blocks = blocks.now;
       amplitudes = amplitudes.now;
       table = samples.now;
@@ -180,7 +184,7 @@ pub extern "C" fn cikenuma_lookup_hidden_vertical_bound(
     })) }
 {
     let lent = Lent {
-        numbers: numbers(Vertical, Hidden, n, g, l, m, s, d),
+        numbers: numbers(Vertical, Hidden, n, g, l, w, m, s, d),
         blocks,
         amplitudes,
         table: samples,
@@ -194,6 +198,7 @@ pub extern "C" fn cikenuma_lookup_hidden_vertical_gates(
     n: u64,
     g: u64,
     l: u64,
+    w: u64,
     m: u64,
     s: u64,
     d: u64,
@@ -205,7 +210,7 @@ pub extern "C" fn cikenuma_lookup_hidden_vertical_gates(
     work: &[u8],
 ) -> u64
     ensures { result ≡ gates (Lookups.lookup (record {
-      numbers = record { packing = Vertical; visibility = Hidden; scheme = scheme_of n g l; M = m; s = s; d = d };
+      numbers = record { packing = Vertical; visibility = Hidden; scheme = record { N = n; g = g; L = l; W = w }; M = m; s = s; d = d };
       blocks = blocks.now;
       amplitudes = amplitudes.now;
       table = samples.now;
@@ -215,7 +220,7 @@ pub extern "C" fn cikenuma_lookup_hidden_vertical_gates(
     })) }
 {
     let lent = Lent {
-        numbers: numbers(Vertical, Hidden, n, g, l, m, s, d),
+        numbers: numbers(Vertical, Hidden, n, g, l, w, m, s, d),
         blocks,
         amplitudes,
         table: samples,

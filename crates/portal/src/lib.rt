@@ -10,7 +10,6 @@ pub mod packed;
 pub mod scalar;
 
 ghost use Rattle.std.specs.Prelude.{◌≡◌};
-ghost use Rattle.trgsw.specs.Parameters as Parameters;
 
 use tables::{Numbers, Packing, Visibility};
 use trgsw::Scheme;
@@ -22,16 +21,22 @@ fn numbers(
     n: u64,
     g: u64,
     l: u64,
+    w: u64,
     m: u64,
     s: u64,
     d: u64,
 ) -> Numbers
-    ensures { result ≡ record { packing = packing; visibility = visibility; scheme = Parameters.scheme_of n g l; M = m; s = s; d = d } }
+    ensures { result ≡ record { packing = packing; visibility = visibility; scheme = record { N = n; g = g; L = l; W = w }; M = m; s = s; d = d } }
 {
     Numbers {
         packing,
         visibility,
-        scheme: Scheme::new(n, g, l),
+        scheme: Scheme {
+            N: n,
+            g,
+            L: l,
+            W: w,
+        },
         M: m,
         s,
         d,

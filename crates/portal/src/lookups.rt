@@ -1,7 +1,6 @@
 // The lookups in public tables, one in each packing.
 ghost use Rattle.std.specs.Prelude.{◌≡◌};
 ghost use Rattle.answers.specs.Answers.{number, bound, gates};
-ghost use Rattle.trgsw.specs.Parameters.{scheme_of};
 ghost use Rattle.tables.specs.declared.Packing.TheVariants.{Horizontal, Vertical};
 ghost use Rattle.tables.specs.declared.Visibility.TheVariants.{Public};
 ghost use Rattle.lookup.specs.Job.{Job, public_job};
@@ -17,6 +16,7 @@ pub extern "C" fn cikenuma_lookup(
     n: u64,
     g: u64,
     l: u64,
+    w: u64,
     m: u64,
     s: u64,
     d: u64,
@@ -26,12 +26,12 @@ pub extern "C" fn cikenuma_lookup(
     sample: &mut [u8],
     work: &mut [u8],
 ) -> u32
-    ensures { (let j : Job = public_job (record { packing = Horizontal; visibility = Public; scheme = scheme_of n g l; M = m; s = s; d = d })
+    ensures { (let j : Job = public_job (record { packing = Horizontal; visibility = Public; scheme = record { N = n; g = g; L = l; W = w }; M = m; s = s; d = d })
         blocks.now amplitudes.now classes.now sample.old work.old in
         (result ≡ number (Lookups.lookup j)) × (sample.new ≡ Lookups.lookup_sample j) × (work.new ≡ Lookups.lookup_work j)) }
 {
     let lent = Lent {
-        numbers: numbers(Horizontal, Public, n, g, l, m, s, d),
+        numbers: numbers(Horizontal, Public, n, g, l, w, m, s, d),
         blocks,
         amplitudes,
         table: classes,
@@ -45,6 +45,7 @@ pub extern "C" fn cikenuma_lookup_bound(
     n: u64,
     g: u64,
     l: u64,
+    w: u64,
     m: u64,
     s: u64,
     d: u64,
@@ -54,11 +55,11 @@ pub extern "C" fn cikenuma_lookup_bound(
     sample: &[u8],
     work: &[u8],
 ) -> u64
-    ensures { result ≡ bound (Lookups.lookup (public_job (record { packing = Horizontal; visibility = Public; scheme = scheme_of n g l; M = m; s = s; d = d })
+    ensures { result ≡ bound (Lookups.lookup (public_job (record { packing = Horizontal; visibility = Public; scheme = record { N = n; g = g; L = l; W = w }; M = m; s = s; d = d })
         blocks.now amplitudes.now classes.now sample.now work.now)) }
 {
     let lent = Lent {
-        numbers: numbers(Horizontal, Public, n, g, l, m, s, d),
+        numbers: numbers(Horizontal, Public, n, g, l, w, m, s, d),
         blocks,
         amplitudes,
         table: classes,
@@ -72,6 +73,7 @@ pub extern "C" fn cikenuma_lookup_gates(
     n: u64,
     g: u64,
     l: u64,
+    w: u64,
     m: u64,
     s: u64,
     d: u64,
@@ -81,11 +83,11 @@ pub extern "C" fn cikenuma_lookup_gates(
     sample: &[u8],
     work: &[u8],
 ) -> u64
-    ensures { result ≡ gates (Lookups.lookup (public_job (record { packing = Horizontal; visibility = Public; scheme = scheme_of n g l; M = m; s = s; d = d })
+    ensures { result ≡ gates (Lookups.lookup (public_job (record { packing = Horizontal; visibility = Public; scheme = record { N = n; g = g; L = l; W = w }; M = m; s = s; d = d })
         blocks.now amplitudes.now classes.now sample.now work.now)) }
 {
     let lent = Lent {
-        numbers: numbers(Horizontal, Public, n, g, l, m, s, d),
+        numbers: numbers(Horizontal, Public, n, g, l, w, m, s, d),
         blocks,
         amplitudes,
         table: classes,
@@ -99,6 +101,7 @@ pub extern "C" fn cikenuma_lookup_vertical(
     n: u64,
     g: u64,
     l: u64,
+    w: u64,
     m: u64,
     s: u64,
     d: u64,
@@ -108,12 +111,12 @@ pub extern "C" fn cikenuma_lookup_vertical(
     sample: &mut [u8],
     work: &mut [u8],
 ) -> u32
-    ensures { (let j : Job = public_job (record { packing = Vertical; visibility = Public; scheme = scheme_of n g l; M = m; s = s; d = d })
+    ensures { (let j : Job = public_job (record { packing = Vertical; visibility = Public; scheme = record { N = n; g = g; L = l; W = w }; M = m; s = s; d = d })
         blocks.now amplitudes.now classes.now sample.old work.old in
         (result ≡ number (Lookups.lookup j)) × (sample.new ≡ Lookups.lookup_sample j) × (work.new ≡ Lookups.lookup_work j)) }
 {
     let lent = Lent {
-        numbers: numbers(Vertical, Public, n, g, l, m, s, d),
+        numbers: numbers(Vertical, Public, n, g, l, w, m, s, d),
         blocks,
         amplitudes,
         table: classes,
@@ -127,6 +130,7 @@ pub extern "C" fn cikenuma_lookup_vertical_bound(
     n: u64,
     g: u64,
     l: u64,
+    w: u64,
     m: u64,
     s: u64,
     d: u64,
@@ -136,11 +140,11 @@ pub extern "C" fn cikenuma_lookup_vertical_bound(
     sample: &[u8],
     work: &[u8],
 ) -> u64
-    ensures { result ≡ bound (Lookups.lookup (public_job (record { packing = Vertical; visibility = Public; scheme = scheme_of n g l; M = m; s = s; d = d })
+    ensures { result ≡ bound (Lookups.lookup (public_job (record { packing = Vertical; visibility = Public; scheme = record { N = n; g = g; L = l; W = w }; M = m; s = s; d = d })
         blocks.now amplitudes.now classes.now sample.now work.now)) }
 {
     let lent = Lent {
-        numbers: numbers(Vertical, Public, n, g, l, m, s, d),
+        numbers: numbers(Vertical, Public, n, g, l, w, m, s, d),
         blocks,
         amplitudes,
         table: classes,
@@ -154,6 +158,7 @@ pub extern "C" fn cikenuma_lookup_vertical_gates(
     n: u64,
     g: u64,
     l: u64,
+    w: u64,
     m: u64,
     s: u64,
     d: u64,
@@ -163,11 +168,11 @@ pub extern "C" fn cikenuma_lookup_vertical_gates(
     sample: &[u8],
     work: &[u8],
 ) -> u64
-    ensures { result ≡ gates (Lookups.lookup (public_job (record { packing = Vertical; visibility = Public; scheme = scheme_of n g l; M = m; s = s; d = d })
+    ensures { result ≡ gates (Lookups.lookup (public_job (record { packing = Vertical; visibility = Public; scheme = record { N = n; g = g; L = l; W = w }; M = m; s = s; d = d })
         blocks.now amplitudes.now classes.now sample.now work.now)) }
 {
     let lent = Lent {
-        numbers: numbers(Vertical, Public, n, g, l, m, s, d),
+        numbers: numbers(Vertical, Public, n, g, l, w, m, s, d),
         blocks,
         amplitudes,
         table: classes,

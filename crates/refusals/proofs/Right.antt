@@ -14,7 +14,7 @@ use Rattle.answers.specs.Answers.{greatest_magnitude}
 use Rattle.answers.specs.Checks.{all_below}
 use Rattle.trlwe.specs.Calls as Trlwe
 use Rattle.lwe.specs.Calls as Lwe
-use Rattle.trgsw.specs.Parameters.{masks, weight}
+use Rattle.trgsw.specs.Parameters.{masks}
 use Rattle.trgsw.specs.External.{charge}
 use Rattle.selectors.specs.Calls as Selectors
 use Rattle.gates.specs.Calls as Gates
@@ -39,7 +39,7 @@ LimitTest ls = map (λ (l : Limit). eqb l.got l.unwanted) ls ≡ map (λ (l : Li
 -- Both tests of a group of calls. Who unfolds it, computes with all these definitions.
 Tested : List Call → Type 0
 unfolding group_rows group_limits refusal_rows Trlwe.encrypt_classes Trlwe.decrypt_classes Lwe.decrypt_scalar Lwe.extract
-    Selectors.encrypt_selector Gates.external_product Gates.cmux Lookup.lookup job_answer file_refusal read_job file_packing masks weight rotations
+    Selectors.encrypt_selector Gates.external_product Gates.cmux Lookup.lookup job_answer file_refusal read_job file_packing masks rotations
     greatest_magnitude largest charges charge sum precision magnitude words bytes tabulate joined ones count_trailing_zeros all_below
 Tested calls = RowTest (group_rows calls) × LimitTest (group_limits calls)
 

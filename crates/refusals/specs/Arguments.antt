@@ -7,6 +7,7 @@ pub record Arguments : Type 0 where
   pub N : ℕ
   pub g : ℕ
   pub L : ℕ
+  pub W : ℕ
   pub M : ℕ
   pub s : ℕ
   pub d : ℕ

@@ -6,7 +6,6 @@ use Rattle.answers.specs.Answers.{Answer}
 use Rattle.trlwe.specs.Calls as Trlwe
 use Rattle.lwe.specs.Calls as Lwe
 use Rattle.trgsw.specs.declared.Scheme.{Scheme}
-use Rattle.trgsw.specs.Parameters as Parameters
 use Rattle.selectors.specs.Calls as Selectors
 use Rattle.gates.specs.Calls as Gates
 use Rattle.tables.specs.declared.Packing.{Packing}
@@ -35,11 +34,13 @@ extract a = Lwe.extract a.N a.position a.sample a.scalar
 -- ---- blocks
 
 abbrev pub scheme : Arguments → Scheme
-scheme a = record { N = a.N; g = a.g; L = a.L }
+scheme a = record { N = a.N; g = a.g; L = a.L; W = a.W }
 
 abbrev pub encrypt_selector : Arguments → Answer
 encrypt_selector a = Selectors.encrypt_selector (record {
-  scheme = Parameters.scheme_of a.N a.g a.L;
+  N = a.N;
+  g = a.g;
+  L = a.L;
   bit = a.bit;
   key = a.key;
   masks = a.masks;

@@ -1,5 +1,5 @@
 -- What can be wrong with the arguments of a call, by the number that is returned for it. The numbers are those of document 01's table of
--- returned numbers, and stand in no other file of the table of refusals.
+-- returned numbers and of later papers, and stand in no other file of the table of refusals.
 -- Assumes nothing.
 use Rattle.std.specs.Prelude.{List, [], ◌∷◌, ◌++◌, ℕ, ◌+◌, ◌-◌, ◌^◌, length, take, drop, map, replicate, flat_map}
 use Rattle.torus.specs.Bytes.{bytes}
@@ -39,9 +39,22 @@ gadget = refused 2
     (with_gadget 0 2 ∷ with_gadget 17 1 ∷ with_gadget 8 0 ∷ with_gadget 11 3 ∷ [])
     (with_gadget 1 1 ∷ with_gadget 16 2 ∷ with_gadget 1 32 ∷ [])
 
--- What is told of a parameter set.
+-- "It refuses with 12, directly after 2, a W above N": just above it, and above every degree.
+abbrev pub with_w : ℕ → Change
+with_w W a = record a { W = W }
+
+abbrev pub heavier : Change
+heavier a = with_w (a.N + 1) a
+
+abbrev pub heaviest : Change
+heaviest a = with_w a.N a
+
+abbrev pub weight : Refusal
+weight = refused 12 (heavier ∷ with_w (2 ^ 32) ∷ []) (with_w 0 ∷ heaviest ∷ [])
+
+-- What is told of a parameter set where there is a charge.
 abbrev pub scheme : List Refusal
-scheme = degree ∷ gadget ∷ []
+scheme = degree ∷ gadget ∷ weight ∷ []
 
 -- "M not a power of two from 2 to 65,536"
 abbrev pub with_m : ℕ → Change

@@ -1,6 +1,6 @@
 -- The form of the table of refusals: a row, and the rows of a call. From arguments that are accepted it makes a row for each fault, and one
--- for each two faults of neighbouring refusals, which returns the earlier number: "Each call checks what applies to it, in rising number."
--- It makes another kind of row for each change up to a limit.
+-- for each two faults of neighbouring refusals, which returns the earlier number: document 01 has "Each call checks what applies to it, in
+-- rising number", and a later paper's number stands where it says. It makes another kind of row for each change up to a limit.
 -- Assumes nothing.
 use Rattle.std.specs.Prelude.{List, [], ◌∷◌, ◌++◌, ℕ, map, flat_map}
 use Rattle.answers.specs.Answers as Answers

@@ -19,6 +19,7 @@ base = record {
   N = 2;
   g = 16;
   L = 2;
+  W = 1;
   M = 16;
   s = 2;
   d = 2;
@@ -128,13 +129,13 @@ encrypt_selector = record {
       ∷ [];
 }
 
--- With g = 8 the charge is 2·2·2·2^7·3 + (1 + 2)·2^15 = 101376. "The external product reports the charge plus the input's declared
+-- With g = 8 the charge is 2·2·2·2^7·3 + (1 + 1)·2^15 = 68608. "The external product reports the charge plus the input's declared
 -- amplitude."
 abbrev pub external_product : Call
 external_product = record {
   answer = Definition.external_product;
   good = record base { g = 8 };
-  bound = 101381;
+  bound = 68613;
   gates = 0;
   refusals =
       Fault.scheme
@@ -148,7 +149,7 @@ abbrev pub cmux : Call
 cmux = record {
   answer = Definition.cmux;
   good = record base { g = 8 };
-  bound = 2147585024;
+  bound = 2147552256;
   gates = 1;
   refusals =
       Fault.scheme

@@ -12,15 +12,15 @@ use Rattle.answers.specs.Answers.{number, greatest_magnitude}
 use Rattle.answers.proofs.Laws.{or_else_assoc, before, went_on, both_passed, both_pass, exact_held, exact_met, bit_held, bit_met}
 use Rattle.trlwe.proofs.Accepted.{key_fits, key_passes}
 use Rattle.trgsw.specs.declared.Parameters.{Parameters}
-use Rattle.trgsw.specs.Parameters.{LawfulScheme, parameters, scheme_refusal, key_size, row_count, block_size}
-use Rattle.trgsw.proofs.Checked.{scheme_held, scheme_met}
-use Rattle.selectors.specs.Calls.{SelectorInput, encrypt_selector}
+use Rattle.trgsw.specs.Parameters.{LawfulScheme, scheme_of, unweighted_refusal, key_size, row_count, block_size}
+use Rattle.trgsw.proofs.Checked.{scheme_held, scheme_met, unweighted_told}
+use Rattle.selectors.specs.Calls.{SelectorInput, selector_set, encrypt_selector}
 use Rattle.selectors.specs.Inner.{lengths, contents, Rows}
 
 pub record Selectable (c : SelectorInput) : Type 0 where
-  pub scheme : LawfulScheme c.scheme
-  pub rows : Rows (parameters c.scheme) c.bit c.key c.masks c.errors
-  pub block_length : length c.block ≡ 4 * block_size (parameters c.scheme)
+  pub scheme : LawfulScheme (scheme_of c.N c.g c.L)
+  pub rows : Rows (selector_set c) c.bit c.key c.masks c.errors
+  pub block_length : length c.block ≡ 4 * block_size (selector_set c)
 
 -- What the lengths tell that pass their check, and back.
 pub record Lengths (p : Parameters) (key masks errors block : List ℕ) : Type 0 where
@@ -48,21 +48,21 @@ lengths_met p key masks errors block ok =
 
 module _ (c : SelectorInput) where
   abbrev set : Parameters
-  set = parameters c.scheme
+  set = selector_set c
 
   -- The rows of the call's answer, taken together as the code takes them.
-  pub selector_checks : (scheme_refusal c.scheme or_else lengths set c.key c.masks c.errors c.block or_else contents c.bit c.key
+  pub selector_checks : (unweighted_refusal c.N c.g c.L or_else lengths set c.key c.masks c.errors c.block or_else contents c.bit c.key
       or_else Ok (record { bound = greatest_magnitude (words c.errors); gates = 0 })) ≡ encrypt_selector c
   unfolding encrypt_selector
   selector_checks = simp or_else_assoc
 
   pub selector_accepted : number (encrypt_selector c) ≡ 0 → Selectable c
   selector_accepted e =
-      let told = before (scheme_refusal c.scheme) _ (ap number selector_checks ∙ e) in
+      let told = before (unweighted_refusal c.N c.g c.L) _ (ap number selector_checks ∙ e) in
       let fit = before (lengths set c.key c.masks c.errors c.block) _ told.1 in
       let words_fit = before (contents c.bit c.key) _ fit.1 in
       let tested = both_passed (Check.bit c.bit) (Check.key (words c.key)) words_fit.0 in
-      let scheme = scheme_held c.scheme told.0 in
+      let scheme = scheme_held (scheme_of c.N c.g c.L) (unweighted_told c.N c.g c.L ∙ told.0) in
       let long = lengths_held set c.key c.masks c.errors c.block fit.0 in
       record {
         scheme = scheme;
@@ -79,7 +79,7 @@ module _ (c : SelectorInput) where
   pub selector_accepts : Selectable c → encrypt_selector c ≡ Ok (record { bound = greatest_magnitude (words c.errors); gates = 0 })
   selector_accepts ok =
       sym selector_checks
-      ∙ went_on _ _ (scheme_met c.scheme ok.scheme)
+      ∙ went_on _ _ (sym (unweighted_told c.N c.g c.L) ∙ scheme_met (scheme_of c.N c.g c.L) ok.scheme)
       ∙ went_on _ _ (lengths_met set c.key c.masks c.errors c.block (record {
         key_length = ok.rows.key_fits.size;
         masks_length = ok.rows.masks_length;

@@ -10,16 +10,16 @@ use Rattle.torus.proofs.Parts.{length_words, words_word, words_bytes}
 use Rattle.answers.specs.Answers.{number, bound, greatest_magnitude}
 use Rattle.answers.proofs.Laws.{greatest_at, after_written}
 use Rattle.trgsw.specs.declared.Parameters.{Parameters}
-use Rattle.trgsw.specs.Parameters.{parameters, key_size, row_count}
+use Rattle.trgsw.specs.Parameters.{key_size, row_count}
 use Rattle.trgsw.specs.Block.{Holds}
 use Rattle.selectors.specs.Encrypted.{encrypted_block}
-use Rattle.selectors.specs.Calls.{SelectorInput, encrypt_selector, encrypt_selector_block}
+use Rattle.selectors.specs.Calls.{SelectorInput, selector_set, encrypt_selector, encrypt_selector_block}
 use Rattle.selectors.proofs.Accepted.{Selectable, selector_accepted, selector_accepts}
 use Rattle.selectors.proofs.Encrypted.{encrypted_holds, block_below}
 
 module _ (c : SelectorInput) (e : number (encrypt_selector c) ≡ 0) where
   abbrev set : Parameters
-  set = parameters c.scheme
+  set = selector_set c
 
   pub selector_words : words (encrypt_selector_block c) ≡ encrypted_block set c.bit (words c.key) (words c.masks) (words c.errors)
   unfolding encrypt_selector_block

@@ -6,14 +6,16 @@ use Rattle.torus.specs.Bytes.{words, bytes}
 use Rattle.answers.specs.Checks.{◌or_else◌}
 use Rattle.answers.specs.Checks as Check
 use Rattle.answers.specs.Answers.{Answer, greatest_magnitude, after}
-use Rattle.trgsw.specs.declared.Scheme.{Scheme}
-use Rattle.trgsw.specs.Parameters.{parameters, scheme_refusal, key_size, row_count, block_size}
+use Rattle.trgsw.specs.declared.Parameters.{Parameters}
+use Rattle.trgsw.specs.Parameters.{scheme_of, parameters, unweighted_refusal, key_size, row_count, block_size}
 use Rattle.selectors.specs.declared.Lent.{Lent}
 use Rattle.selectors.specs.Encrypted.{encrypted_block}
 
--- The input of one encryption: what it is told, and its slices as lists of bytes, as they are lent. It writes the last.
+-- The input of one encryption: its numbers, and its slices as lists of bytes, as they are lent. It writes the last.
 pub record SelectorInput : Type 0 where
-  pub scheme : Scheme
+  pub N : ℕ
+  pub g : ℕ
+  pub L : ℕ
   pub bit : ℕ
   pub key : List ℕ
   pub masks : List ℕ
@@ -23,7 +25,9 @@ pub record SelectorInput : Type 0 where
 -- That of a call that is lent these.
 abbrev pub selector_of : (lent : Lent) (block : List ℕ) → SelectorInput
 selector_of lent block = record {
-  scheme = lent.scheme;
+  N = lent.N;
+  g = lent.g;
+  L = lent.L;
   bit = lent.bit;
   key = lent.key.now;
   masks = lent.masks.now;
@@ -31,11 +35,15 @@ selector_of lent block = record {
   block = block;
 }
 
+-- The parameter set. No weight is declared: encryption has no charge.
+abbrev pub selector_set : SelectorInput → Parameters
+selector_set c = parameters (scheme_of c.N c.g c.L)
+
 -- "Encrypt a selector: masks and errors for all rows are lent; it reports the same": the greatest error magnitude as bound.
 unfoldable pub encrypt_selector : SelectorInput → Answer
 encrypt_selector c =
-    let p = parameters c.scheme in
-    scheme_refusal c.scheme
+    let p = selector_set c in
+    unweighted_refusal c.N c.g c.L
     or_else Check.exact (length c.key) (key_size p) or_else Check.exact (length c.masks) (row_count p * key_size p)
     or_else Check.exact (length c.errors) (row_count p * p.N) or_else Check.exact (length c.block) (block_size p)
     or_else Check.bit c.bit
@@ -45,4 +53,4 @@ encrypt_selector c =
 -- What it leaves in the block's slice.
 unfoldable pub encrypt_selector_block : SelectorInput → List ℕ
 encrypt_selector_block c =
-    after (encrypt_selector c) (bytes (encrypted_block (parameters c.scheme) c.bit (words c.key) (words c.masks) (words c.errors))) c.block
+    after (encrypt_selector c) (bytes (encrypted_block (selector_set c) c.bit (words c.key) (words c.masks) (words c.errors))) c.block

@@ -16,10 +16,13 @@ use answers::{Answer, Checked, Ledger};
 use row_terms::place;
 use trgsw::{Bounded, Parameters, Scheme};
 
-// What the encryption of a selector reads: what it is told, the bit, and the slices that are lent to it: masks and errors for all rows.
+// What the encryption of a selector reads: degree N, a gadget of L digits in base 2^g, the bit, and the slices that are lent to it: masks and
+// errors for all rows.
 #[derive(Clone, Copy)]
 pub struct Lent<'a> {
-    pub scheme: Scheme,
+    pub N: u64,
+    pub g: u64,
+    pub L: u64,
     pub bit: u64,
     pub key: &'a [u8],
     pub masks: &'a [u8],
@@ -97,7 +100,7 @@ fn check_lengths(lent: &Lent, block: &[u8], p: Bounded) -> Checked
 pub fn encrypt_selector_answer(lent: &Lent, block: &[u8]) -> Answer
     ensures { result ≡ Calls.encrypt_selector (Calls.selector_of lent.now block.now) }
 {
-    check_lengths(lent, block, lent.scheme.bounded()?)?;
+    check_lengths(lent, block, trgsw::unweighted(lent.N, lent.g, lent.L)?)?;
     answers::bit(lent.bit)?;
     answers::key(lent.key)?;
     let bound = answers::greatest_magnitude(lent.errors) as u64;
@@ -111,6 +114,7 @@ pub fn encrypt_selector(lent: &Lent, block: &mut [u8]) -> Answer
         × (block.new ≡ Calls.encrypt_selector_block (Calls.selector_of lent.now block.old)) }
 {
     let ledger = encrypt_selector_answer(lent, block)?;
-    encrypt(block, lent, lent.scheme.parameter_set());
+    let scheme = Scheme::new(lent.N, lent.g, lent.L);
+    encrypt(block, lent, scheme.parameter_set());
     Ok(ledger)
 }

@@ -3,18 +3,18 @@
 use mathlib.Core.Path.{◌≡◌, refl}
 use mathlib.Core.List.{List}
 use mathlib.Core.Bool.{◌&&◌}
-use Prim.Native.Nat.{ℕ, ◌<◌}
+use Prim.Native.Nat.{ℕ, ◌≤◌, ◌<◌}
 use native.Mathlib.Omega.{arith}
 use lib.Dec.{leb}
 use lib.ListN.{length, get_or}
 use Rattle.torus.proofs.Lists.{all_below}
 use Rattle.torus.proofs.Joined.{chunk_below}
 use Rattle.torus.specs.Sum.{chunk}
-use Rattle.answers.specs.Checks.{passed}
+use Rattle.answers.specs.Checks.{Checked, passed, ◌or_else◌}
 use Rattle.answers.specs.Checks as Check
 use Rattle.answers.specs.Answers.{number}
 use Rattle.answers.specs.declared.Refusal.TheVariants as Refused
-use Rattle.answers.proofs.Laws.{both_passed, both_pass, check_other, first_other, class_number_held, class_number_met, count_held, count_met, depth_held, depth_met, classes_held, classes_met}
+use Rattle.answers.proofs.Laws.{both_passed, both_pass, check_most, first_most, first_other, class_number_held, class_number_met, count_held, count_met, depth_held, depth_met, classes_held, classes_met}
 use Rattle.trgsw.specs.Parameters.{scheme_refusal}
 use Rattle.trgsw.proofs.Checked.{scheme_held, scheme_met, scheme_other}
 use Rattle.tables.specs.declared.Visibility.{Visibility}
@@ -52,14 +52,19 @@ module _ (x : Numbers) where
       (both_pass _ _ (class_number_met x.M ok.class_number)
       (both_pass _ _ (count_met classes x.s ok.some ok.most) (depth_met selectors x.d ok.depth)))
 
-  -- None of these checks gives 9.
+  -- Those behind the scheme's give 3 and 4,
+  abbrev pub sizes : Checked
+  sizes = Check.class_number x.M or_else Check.count classes x.s or_else Check.depth selectors x.d
+
+  pub sizes_most : number sizes ≤ 4
+  sizes_most =
+      first_most _ _ 4 (check_most (Check.is_class_number x.M) Refused.ClassNumber 4 (omega arith))
+      (first_most _ _ 4 (check_most (leb 1 x.s && leb x.s classes) Refused.Count 4 (omega arith))
+      (check_most (leb x.d selectors) Refused.Depth 4 (omega arith)))
+
+  -- and none of all these gives 9.
   pub numbers_other : number (numbers x) ≡ 9 → ⊥
-  numbers_other =
-      first_other (scheme_refusal x.scheme) _ 9 (scheme_other x.scheme)
-      (first_other (Check.class_number x.M) _ 9 (check_other (Check.is_class_number x.M) Refused.ClassNumber 9 (omega arith) (λ e. omega arith))
-      (first_other (Check.count classes x.s) (Check.depth selectors x.d) 9
-      (check_other (leb 1 x.s && leb x.s classes) Refused.Count 9 (omega arith) (λ e. omega arith))
-      (check_other (leb x.d selectors) Refused.Depth 9 (omega arith) (λ e. omega arith))))
+  numbers_other = first_other (scheme_refusal x.scheme) sizes 9 (scheme_other x.scheme) (λ e. omega (arith, sizes_most, e))
 
 -- ---- the classes of a table
 
@@ -72,9 +77,9 @@ pub classes_of_met : (v : Visibility) (M : ℕ) (table : List ℕ) → (v ≡ Pu
 classes_of_met Public M table h = classes_met M table (h refl)
 classes_of_met Hidden M table h = refl
 
-pub classes_of_other : (v : Visibility) (M : ℕ) (table : List ℕ) → number (classes_of v M table) ≡ 9 → ⊥
-classes_of_other Public M table e = check_other (Check.all_below M table) Refused.Class 9 (omega arith) (λ n. omega arith) e
-classes_of_other Hidden M table e = omega arith
+pub classes_of_most : (v : Visibility) (M : ℕ) (table : List ℕ) → number (classes_of v M table) ≤ 7
+classes_of_most Public M table = check_most (Check.all_below M table) Refused.Class 7 (omega arith)
+classes_of_most Hidden M table = omega arith
 
 -- The classes of a part of a table are below M if all are.
 pub class_below : (x : Numbers) (classes : List ℕ) → LawfulNumbers x → ((i : ℕ) → i < length classes → get_or classes i 0 < x.M)

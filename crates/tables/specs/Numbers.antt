@@ -1,4 +1,4 @@
--- The numbers of a lookup, which refusals 1 to 4 judge, its packing, and whether its table is public. The numbers are passed to the call, or
+-- The numbers of a lookup, which the refusals up to 4 judge, its packing, and whether its table is public. The numbers are passed to the call, or
 -- stand in the first words of a job file. What is quoted of the vertical packing is from document 02, Paper 1, and of hidden tables from
 -- Paper 2.
 -- Assumes nothing.
@@ -57,7 +57,7 @@ abbrev pub declared_words : (visibility : Visibility) (x : Numbers) → ℕ
 declared_words Public x = 0
 declared_words Hidden x = table_samples x
 
--- ---- refusals 1 to 4
+-- ---- refusals 1, 2, 12, 3 and 4
 
 -- The most selectors in each packing: "d above 10", and in the vertical one "a d above 16".
 abbrev pub horizontal_selectors : ℕ
@@ -79,7 +79,7 @@ abbrev pub most_classes : (packing : Packing) (N : ℕ) → ℕ
 most_classes Horizontal N = N
 most_classes Vertical N = 1
 
--- Numbers that pass refusals 1 to 4.
+-- Numbers that pass them.
 pub record LawfulNumbers (x : Numbers) : Type 0 where
   pub scheme : LawfulScheme x.scheme
   pub class_number : ClassNumber x.M

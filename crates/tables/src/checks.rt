@@ -32,7 +32,7 @@ impl Packing {
 }
 
 impl Numbers {
-    // 1 to 4: the numbers.
+    // 1, 2, 12, 3 and 4: the numbers.
     pub fn check(self) -> Checked
         ensures { result ≡ numbers self }
     {

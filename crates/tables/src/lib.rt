@@ -42,7 +42,7 @@ pub struct Numbers {
     pub d: u64,
 }
 
-// Numbers that pass refusals 1 to 4.
+// Numbers that pass the refusals up to 4.
 #[derive(Clone, Copy)]
 pub struct Lawful {
     pub numbers: Numbers,

@@ -6,4 +6,5 @@ pub mod OneMask
 pub mod Words
 pub mod Charges
 pub mod Told
+pub mod Weight
 pub mod Checked

@@ -19,7 +19,7 @@ use Rattle.ring.proofs.Terms.{product_agree}
 use Rattle.trlwe.specs.Sample.{part}
 use Rattle.trgsw.specs.declared.Parameters.{Parameters}
 use Rattle.trgsw.specs.declared.Scheme.{Scheme}
-use Rattle.trgsw.specs.Parameters.{masks, weight, parameters}
+use Rattle.trgsw.specs.Parameters.{masks, parameters}
 use Rattle.trgsw.specs.Block.{row, component, place, gadget_row, row_phase}
 use Rattle.trgsw.specs.External.{row_digits, external, charge}
 
@@ -27,15 +27,20 @@ use Rattle.trgsw.specs.External.{row_digits, external, charge}
 abbrev pub one : (N g L : ℕ) → Parameters
 one N g L = record { N = N; k = 1; g = g; L = L; W = N }
 
--- What a call is told is such a set.
-pub told_one : (x : Scheme) → parameters x ≡ one x.N x.g x.L
-unfolding masks weight
-told_one x = refl
+-- What a call is told with W = N is such a set.
+pub told_one : (x : Scheme) → x.W ≡ x.N → parameters x ≡ one x.N x.g x.L
+unfolding masks
+told_one x e = rw e refl
 
 -- "Its charge is 2·L·N·2^(g-1)·A + (1 + N)·E."
 pub charge_one : (N g L A : ℕ) → charge (one N g L) A ≡ 2 * L * N * 2 ^ (g - 1) * A + (1 + N) * precision g L
 unfolding charge
 charge_one N g L A = refl
+
+-- Where a weight is declared "the charge's second term becomes (1 + W)·E".
+pub charge_told : (x : Scheme) (A : ℕ) → charge (parameters x) A ≡ 2 * x.L * x.N * 2 ^ (x.g - 1) * A + (1 + x.W) * precision x.g x.L
+unfolding charge masks
+charge_told x A = refl
 
 -- Row L + j is row j for the body.
 body_row : (L j : ℕ) → j < L → (component L (L + j) ≡ 1) × (place L (L + j) ≡ suc j)

@@ -37,7 +37,8 @@ cmux_sample p block x₀ x₁ =
 abbrev pub picked {ℓ} : {S : Type ℓ} (m : ℕ) (x₀ x₁ : S) → S
 picked m x₀ x₁ = cond (eqb m 0) x₀ x₁
 
--- "Its charge is 2·L·N·2^(g-1)·A + (1 + N)·E." This is for k = 1 and a key of up to N ones; here for k masks and up to W ones.
+-- "Its charge is 2·L·N·2^(g-1)·A + (1 + N)·E", and where a weight is declared "the charge's second term becomes (1 + W)·E". This is for k = 1;
+-- here for k masks.
 -- In the thesis (Lemma 3.2.2) it is the noise that a CMux adds to the greater of its inputs'.
 unfoldable pub charge : (p : Parameters) (A : ℕ) → ℕ
 charge p A = row_count p * p.N * half p.g * A + (1 + p.W) * precision p.g p.L

@@ -1,7 +1,8 @@
 -- The parameter set of blocks, what a call is told of it, and the sizes that it gives. Parameters have k masks and keys of up to W ones;
--- what a call is not told is shut here.
+-- k, which a call is not told, is shut here. What is quoted of the weight is from document 02, Paper 6.
 -- Assumes nothing.
-use Rattle.std.specs.Prelude.{List, ℕ, suc, ◌*◌, ◌≤◌}
+use Rattle.std.specs.Prelude.{cond, List, [], ◌∷◌, ℕ, suc, ◌+◌, ◌*◌, ◌≤◌, eqb}
+use Rattle.torus.specs.Bytes.{words}
 use Rattle.gadget.specs.Digits.{Lawful}
 use Rattle.ring.specs.Polynomial.{Degree}
 use Rattle.answers.specs.Checks.{Checked, ◌or_else◌}
@@ -21,30 +22,39 @@ masks x = 1
 abbrev pub most_masks : ℕ
 most_masks = 1
 
--- "Its charge is 2·L·N·2^(g-1)·A + (1 + N)·E": keys of up to N ones. Shut, so that what is proved of it holds for up to W ones.
-unfoldable pub weight : Scheme → ℕ
-weight x = x.N
-
--- The parameter set that it is told.
+-- The parameter set that it is told: "Every call that uses a charge takes a declared weight W".
 abbrev pub parameters : Scheme → Parameters
-parameters x = record { N = x.N; k = masks x; g = x.g; L = x.L; W = weight x }
+parameters x = record { N = x.N; k = masks x; g = x.g; L = x.L; W = x.W }
 
--- What a call is told with N, g and L.
+-- Where no weight is declared, it is that of every key: "Job files mean W = N".
 abbrev pub scheme_of : (N g L : ℕ) → Scheme
-scheme_of N g L = record { N = N; g = g; L = L }
+scheme_of N g L = record { N = N; g = g; L = L; W = N }
 
--- A key of a call that is told x: "A key K is N words, 0 or 1", for each mask.
-abbrev pub SchemeKey : (x : Scheme) (key : List ℕ) → Type 0
-SchemeKey x key = Key x.N (masks x) key
-
--- Numbers that pass refusals 1 and 2.
+-- Numbers that pass refusals 1, 2 and 12.
 pub record LawfulScheme (x : Scheme) : Type 0 where
   pub degree : Degree x.N
   pub gadget : Lawful x.g x.L
+  pub weight : x.W ≤ x.N
 
--- The same as a check: the first of these refusals that applies.
+-- The same as checks, of which the first that refuses does so. A call that is told no weight has 1 and 2,
+abbrev pub unweighted_refusal : (N g L : ℕ) → Checked
+unweighted_refusal N g L = Check.degree N or_else Check.gadget g L
+
+-- and a call that is told one has 12 "directly after 2".
 abbrev pub scheme_refusal : Scheme → Checked
-scheme_refusal x = Check.degree x.N or_else Check.gadget x.g x.L
+scheme_refusal x = unweighted_refusal x.N x.g x.L or_else Check.weight x.N x.W
+
+-- ---- its keys
+
+-- The Hamming weight of a key: how many of its words are ones.
+unfoldable pub hamming_weight : List ℕ → ℕ
+hamming_weight [] = 0
+hamming_weight (w ∷ ws) = cond (eqb w 1) 1 0 + hamming_weight ws
+
+-- A key of a call that is told x: "A key K is N words, 0 or 1", for each mask, and "K has at most W ones".
+pub record SchemeKey (x : Scheme) (key : List ℕ) : Type 0 where
+  pub fits : Key x.N (masks x) key
+  pub light : hamming_weight (words key) ≤ x.W
 
 -- ---- sizes, in words
 

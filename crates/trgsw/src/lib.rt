@@ -4,7 +4,7 @@
 
 ghost use Rattle.std.specs.Prelude.{◌≡◌, Err, MatchResult, ◌^◌, ◌≤◌};
 ghost use Rattle.answers.specs.Checks.{passed};
-ghost use Rattle.trgsw.specs.Parameters.{scheme_of, Sized, LawfulScheme, scheme_refusal, parameters, key_size, sample_size, row_count, block_size};
+ghost use Rattle.trgsw.specs.Parameters.{scheme_of, Sized, LawfulScheme, unweighted_refusal, scheme_refusal, parameters, key_size, sample_size, row_count, block_size};
 ghost use Rattle.trgsw.specs.External as External;
 
 use answers::{Checked, Refusal};
@@ -27,12 +27,14 @@ pub struct Bounded {
     pub ghost sized: { Sized set },
 }
 
-// What a call is told of its parameter set, whatever the numbers are: degree N, and a gadget of L digits in base 2^g.
+// What a call is told of its parameter set, whatever the numbers are: degree N, a gadget of L digits in base 2^g, and the declared weight W,
+// the most ones of a key.
 #[derive(Clone, Copy)]
 pub struct Scheme {
     pub N: u64,
     pub g: u64,
     pub L: u64,
+    pub W: u64,
 }
 
 // The most masks of a call. Rooms for samples are made for them.
@@ -41,23 +43,45 @@ pub const MOST_MASKS: usize = 1;
 // The words of the largest sample of a call.
 pub const LARGEST_SAMPLE: usize = (MOST_MASKS + 1) * 1024;
 
+// 1 and 2, of a call that is told no weight.
+fn check_unweighted(n: u64, g: u64, l: u64) -> Checked
+    ensures { result ≡ unweighted_refusal n g l }
+{
+    answers::degree(n)?;
+    answers::gadget(g, l)
+}
+
+// The parameter set of a call that is told no weight, where its numbers pass refusals 1 and 2.
+pub fn unweighted(n: u64, g: u64, l: u64) -> Result<Bounded, Refusal>
+    ensures { MatchResult result
+        (λ p. (unweighted_refusal n g l ≡ passed) × (p.set ≡ parameters (scheme_of n g l)))
+        (λ refusal. unweighted_refusal n g l ≡ Err refusal) }
+{
+    Scheme::new(n, g, l).bounded()
+}
+
 impl Scheme {
-    // What a call is told with N, g and L.
+    // Where no weight is declared: that of every key.
     pub fn new(n: u64, g: u64, l: u64) -> Scheme
         ensures { result ≡ scheme_of n g l }
     {
-        Scheme { N: n, g, L: l }
+        Scheme {
+            N: n,
+            g,
+            L: l,
+            W: n,
+        }
     }
 
-    // 1 and 2: what a call is told of its parameter set.
+    // 1, 2 and 12: what a call is told of its parameter set.
     pub fn check(self) -> Checked
         ensures { result ≡ scheme_refusal self }
     {
-        answers::degree(self.N)?;
-        answers::gadget(self.g, self.L)
+        check_unweighted(self.N, self.g, self.L)?;
+        answers::weight(self.N, self.W)
     }
 
-    // The parameter set that a call is told: one mask, and keys of up to N ones.
+    // The parameter set that a call is told, with one mask.
     pub fn parameter_set(self) -> Parameters
         requires { LawfulScheme self }
         ensures { result ≡ parameters self }
@@ -70,11 +94,11 @@ impl Scheme {
             k: 1,
             g: bits,
             L: digits,
-            W: self.N,
+            W: self.W,
         }
     }
 
-    // It, where what is told passes refusals 1 and 2.
+    // It, where what is told passes refusals 1, 2 and 12.
     pub fn bounded(self) -> Result<Bounded, Refusal>
         ensures { MatchResult result
             (λ p. (scheme_refusal self ≡ passed) × (p.set ≡ parameters self))

@@ -22,7 +22,7 @@ static void test_bound(const struct call *call, struct numbers n)
 {
     static const uint32_t zero[2048];
     struct arguments a = {0};
-    uint64_t charge = charge_of((struct gadget){n.g, n.L}, n.N, n.A);
+    uint64_t charge = charge_of(n, n.A);
     at("%s: the bound", call->name);
     all_zero(&a, call, n);
     if (call == &cmux)
@@ -33,7 +33,7 @@ static void test_bound(const struct call *call, struct numbers n)
     free_arguments(&a);
 }
 
-/* Every lawful gadget at the least and the greatest degrees, with amplitudes up to the limit. */
+/* Every lawful gadget at the least and the greatest degrees, with amplitudes up to the limit, and weights in turn. */
 static void test_bounds(const struct call *call)
 {
     const uint64_t degrees[] = {1, 2, 64, 1024}, amplitudes[] = {0, 1, limit};
@@ -44,6 +44,7 @@ static void test_bounds(const struct call *call)
                     struct numbers n = usual(call, degrees[d]);
                     n.g = g;
                     n.L = L;
+                    n.W = weight_in_turn(n, i);
                     n.A = amplitudes[i];
                     n.B = n.A1 = amplitudes[(i + 1) % 3];
                     n.A0 = amplitudes[(i + 2) % 3];

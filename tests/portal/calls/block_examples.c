@@ -13,8 +13,8 @@ static void has_digits(const char *name, uint32_t word, int32_t digit1, int32_t 
     struct arguments a = {0};
     const uint32_t body_rows[8] = {0, 0, 0, 0, 1, 0, 0, 1}, mask_rows[8] = {1, 0, 0, 1, 0, 0, 0, 0};
     const uint32_t body[2] = {0, word}, mask[2] = {word, 0}, want[2] = {(uint32_t)digit1, (uint32_t)digit2};
-    /* Amplitude 0 leaves (1 + N)*E of the charge, which is 65536. */
-    struct numbers n = {.N = 1, .g = 8, .L = 2};
+    /* Amplitude 0 leaves (1 + W)*E of the charge, which is 65536. */
+    struct numbers n = {.N = 1, .g = 8, .L = 2, .W = 1};
     at("case %s: the digits of a body", name);
     lawful(&a, &external_product, n, 1);
     set_words(slice_of(&a, BLOCK), body_rows, 8);
@@ -36,7 +36,7 @@ static void multiplies(void)
     const uint32_t block[16] = {0, 0, 0, 0, 0, 1, 0, 0}, sample[4] = {1, 2, 0, 0};
     const uint32_t want[4] = {UINT32_C(4294967294), 1, 0, 0};
     at("case h");
-    lawful(&a, &external_product, (struct numbers){.N = 2, .g = 16, .L = 2, .A = 3, .B = 4}, 1);
+    lawful(&a, &external_product, (struct numbers){.N = 2, .g = 16, .L = 2, .W = 1, .A = 3, .B = 4}, 1);
     set_words(slice_of(&a, BLOCK), block, 16);
     set_words(slice_of(&a, SAMPLE), sample, 4);
     make_call(&a, (struct answer){0, 786436, 0}); /* 2*2*2*32768*3 + 4 */
@@ -51,7 +51,7 @@ static void picks(uint64_t amplitude, uint64_t bound)
     const uint32_t block[8] = {65536, 0, 1, 0, 0, 65536, 0, 1}, class3[2] = {0, 805306368};
     const uint32_t class8[2] = {0, UINT32_C(2147483648)};
     at("job J");
-    lawful(&a, &cmux, (struct numbers){.N = 1, .g = 16, .L = 2, .A = amplitude}, 1);
+    lawful(&a, &cmux, (struct numbers){.N = 1, .g = 16, .L = 2, .W = 1, .A = amplitude}, 1);
     set_words(slice_of(&a, BLOCK), block, 8);
     set_words(slice_of(&a, SAMPLE), class3, 2);
     set_words(slice_of(&a, SAMPLE1), class8, 2);
@@ -109,10 +109,14 @@ void test_block_examples(void)
     picks(1024, 134217728);
     encrypts(0, bit0);
     encrypts(1, bit1);
-    reports((struct numbers){.N = 1024, .g = 8, .L = 2, .A = 1}, 34111488);
-    reports((struct numbers){.N = 1, .g = 1, .L = 1}, UINT64_C(2147483648));
-    reports((struct numbers){.N = 1024, .g = 1, .L = 1}, UINT64_C(1100585369600));
+    reports((struct numbers){.N = 1024, .g = 8, .L = 2, .W = 1024, .A = 1}, 34111488);
+    reports((struct numbers){.N = 1024, .g = 8, .L = 2, .W = 1023, .A = 1}, 34078720);
+    reports((struct numbers){.N = 1024, .g = 8, .L = 2, .W = 64, .A = 1}, 2654208);
+    reports((struct numbers){.N = 1024, .g = 8, .L = 2, .W = 0, .A = 1}, 557056);
+    reports((struct numbers){.N = 1, .g = 1, .L = 1, .W = 1}, UINT64_C(2147483648));
+    reports((struct numbers){.N = 1024, .g = 1, .L = 1, .W = 1024}, UINT64_C(1100585369600));
+    reports((struct numbers){.N = 1024, .g = 1, .L = 1, .W = 0}, UINT64_C(1073741824));
     /* The greatest: 2^58 is the charge, and the sample's amplitude comes on top. */
-    reports((struct numbers){.N = 1024, .g = 16, .L = 2, .A = 2147483648, .B = 2147483648, .A0 = 2147483648},
+    reports((struct numbers){.N = 1024, .g = 16, .L = 2, .W = 1024, .A = half_turn, .B = half_turn, .A0 = half_turn},
             UINT64_C(288230378299195392));
 }

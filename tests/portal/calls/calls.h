@@ -4,8 +4,8 @@
 
 #include "portal.h"
 
-/* Whether a call can refuse with this number. */
-int can_refuse(const struct call *call, uint32_t number);
+/* A weight for calls with these numbers: N, 0 or half of N, so that each has its turn as the numbers and the turn go on. */
+uint64_t weight_in_turn(struct numbers n, uint64_t turn);
 
 /* Lawful arguments with slices of words 0: what is written is 0 too, and the bound goes by the numbers alone. */
 void all_zero(struct arguments *a, const struct call *call, struct numbers n);
@@ -34,6 +34,7 @@ void bare_gadget(uint32_t *block, size_t N, uint32_t bit);
 
 void test_accepted(void);
 void test_gadgets(void);
+void test_weights(void);
 void test_amplitudes(void);
 void test_extremes(void);
 void test_stack(void);

@@ -29,7 +29,7 @@ static void answers(const struct call *call, struct numbers n, const struct job 
 static void is_the_only_sample(const struct call *call, uint64_t M, uint32_t amplitude, uint32_t number)
 {
     const uint32_t none[1] = {0}, sample[8] = {5, UINT32_MAX, 7, UINT32_C(2147483648), 1, UINT32_C(4026531840), 0, 9};
-    struct numbers n = {.N = 4, .g = 1, .L = 1, .M = M, .s = 1};
+    struct numbers n = {.N = 4, .g = 1, .L = 1, .W = 4, .M = M, .s = 1};
     struct job job = job_of(call, n, none, none, (struct table){.samples = sample, .amplitudes = &amplitude});
     at("%s: no selectors, M = %" PRIu64 ", a sample of amplitude %" PRIu32, call->name, M, amplitude);
     answers(call, n, &job, (struct answer){number, number == 6 ? 0 : amplitude, 0}, sample);

@@ -14,7 +14,7 @@ static void test_bound(const struct call *call, struct numbers n, uint32_t ampli
 {
     static const uint32_t zero[256];
     struct arguments a = {0};
-    uint64_t bound = n.d * charge_of((struct gadget){n.g, n.L}, n.N, amplitude) + greatest;
+    uint64_t bound = n.d * charge_of(n, amplitude) + greatest;
     int accepted = bound < limit_of(n);
     at("%s: sample %zu has the greatest amplitude, %" PRIu64, call->name, place, greatest);
     all_zero(&a, call, n);
@@ -31,7 +31,7 @@ static void test_bound(const struct call *call, struct numbers n, uint32_t ampli
 /* The greatest amplitude of all; and both sides of the limit, if the charges are below it. Returns whether they are. */
 static unsigned test_limit(const struct call *call, struct numbers n, uint32_t amplitude)
 {
-    uint64_t charges = n.d * charge_of((struct gadget){n.g, n.L}, n.N, amplitude), limit = limit_of(n);
+    uint64_t charges = n.d * charge_of(n, amplitude), limit = limit_of(n);
     size_t count = (size_t)samples_of(call, n.N, n.d);
     const size_t places[] = {0, count / 2, count - 1};
     for (size_t i = 0; i < 3; i++) {
@@ -50,8 +50,10 @@ static unsigned test_gadget(const struct call *call, struct gadget gadget)
     unsigned found = 0;
     for (n.N = 1; n.N <= 4; n.N *= 4)
         for (n.d = 0; n.d <= most_selectors(call) && gates_of(call, n.N, n.d) <= MOST_GATES; n.d++)
-            for (n.M = 2; n.M <= 65536; n.M *= 8)
+            for (n.M = 2; n.M <= 65536; n.M *= 8) {
+                n.W = weight_in_turn(n, n.d);
                 found += test_limit(call, n, 0) + test_limit(call, n, 3);
+            }
     return found;
 }
 

@@ -50,7 +50,7 @@ static void test_patterns(const struct call *call, struct numbers n)
         uint64_t sum = 0;
         for (uint64_t i = 0; i < n.d; i++) {
             amplitudes[i] = amplitude_at(pattern, i, n.d);
-            sum += charge_of((struct gadget){n.g, n.L}, n.N, amplitudes[i]);
+            sum += charge_of(n, amplitudes[i]);
         }
         at("%s: the bound, amplitudes of pattern %d", call->name, (int)pattern);
         test_sum(call, n, amplitudes, sum);
@@ -62,11 +62,14 @@ static void test_sums(const struct call *call, struct gadget gadget)
     struct numbers n = {.s = 1, .g = gadget.g, .L = gadget.L};
     for (n.M = 2; n.M <= 65536; n.M *= 32768)
         for (n.N = 1; n.N <= 16; n.N *= 4)
-            for (n.d = 0; is_short(call, n); n.d += 1 + n.d / 3)
+            for (n.d = 0; is_short(call, n); n.d += 1 + n.d / 3) {
+                n.W = weight_in_turn(n, n.d);
                 test_patterns(call, n);
+            }
     n.M = 16;
     n.N = 1024;
     n.d = 2;
+    n.W = weight_in_turn(n, 0);
     test_patterns(call, n);
 }
 
@@ -95,16 +98,28 @@ static void test_steps(const struct call *call, struct gadget gadget)
     struct numbers n = {.s = 1, .g = gadget.g, .L = gadget.L};
     for (n.N = 1; n.N <= 8; n.N *= 8)
         for (n.d = 1; is_short(call, n); n.d += n.d)
-            for (n.M = 2; n.M <= 65536; n.M *= 2)
+            for (n.M = 2; n.M <= 65536; n.M *= 2) {
+                n.W = weight_in_turn(n, n.M);
                 test_step(call, n);
+            }
+}
+
+/* Whether some total of amplitudes makes just this sum; it is then tried. */
+static unsigned test_exact_sum(const struct call *call, struct numbers n, uint64_t sum)
+{
+    uint64_t rounding = n.d * rounding_of(n);
+    if (sum < rounding || (sum - rounding) % unit_of(n))
+        return 0;
+    test_total(call, n, (sum - rounding) / unit_of(n), sum);
+    return 1;
 }
 
 /*
  * Bounds at 2^31/M - 1, 2^31/M and 2^31/M + 1 exactly: of all small degrees, numbers of selectors and numbers of
  * classes, those for which some total of amplitudes makes just this sum.
  *
- * 2^31/M is even, and so is a charge but for its rounding, (1 + N)*E. So the two odd bounds need E = 1 and an even N,
- * that is g = 1, L = 31, N from 2 up, and an odd number of selectors. For 2^31/M - 1, d must be N - 1 modulo N.
+ * 2^31/M is even, and so is a charge but for its rounding, (1 + W)*E. So the two odd bounds need E = 1 and an even W,
+ * that is g = 1, L = 31, and an odd number of selectors. They are rare, and are looked for with every weight.
  */
 static unsigned test_exact(const struct call *call, struct gadget gadget, int64_t offset)
 {
@@ -114,11 +129,10 @@ static unsigned test_exact(const struct call *call, struct gadget gadget, int64_
     for (n.N = 1; n.N <= 8; n.N *= 2)
         for (n.d = 1; is_short(call, n); n.d++)
             for (n.M = 2; n.M <= 65536; n.M *= 2) {
-                uint64_t sum = (uint64_t)((int64_t)limit_of(n) + offset), rounding = n.d * rounding_of(n);
-                if (sum < rounding || (sum - rounding) % unit_of(n))
-                    continue;
-                test_total(call, n, (sum - rounding) / unit_of(n), sum);
-                found++;
+                uint64_t sum = (uint64_t)((int64_t)limit_of(n) + offset);
+                for (n.W = 0; n.W <= n.N; n.W++)
+                    if (offset != 0 || n.W == weight_in_turn(n, n.M))
+                        found += test_exact_sum(call, n, sum);
             }
     return found;
 }

@@ -41,7 +41,7 @@ void lookup_answers(const struct call *call, struct numbers n, const uint32_t *b
 }
 
 /* Job J: the block is the bare gadget of bit 1, so it picks class 8 of 16, whose word is 2147483648. */
-static const struct numbers numbers_j = {.N = 1, .g = 16, .L = 2, .M = 16, .s = 1, .d = 1};
+static const struct numbers numbers_j = {.N = 1, .g = 16, .L = 2, .W = 1, .M = 16, .s = 1, .d = 1};
 static const uint32_t block_j[8] = {65536, 0, 1, 0, 0, 65536, 0, 1}, classes_j[2] = {3, 8};
 static const uint32_t words_j[6] = {0, UINT32_C(2147483648)};
 
@@ -82,7 +82,7 @@ static void job_j_over(const struct call *call, uint8_t before)
 }
 
 /*
- * With N = 2, g = 1 and L = 31 a charge is 124 times the amplitude, and 3. So 1082401 makes 134217727, the greatest
+ * With N = W = 2, g = 1 and L = 31 a charge is 124 times the amplitude, and 3. So 1082401 makes 134217727, the greatest
  * bound for 16 classes. Five amplitudes of 4329604 together make 536870911, the greatest for 4; three of 2164802
  * together make 268435457, one more than the limit for 8.
  */
@@ -90,7 +90,7 @@ static void bounds_at_the_limit(const struct call *call)
 {
     static const uint32_t blocks[5 * 248], classes[32], words[2 * 2 * 7];
     const uint32_t one[1] = {1082401}, next[1] = {1082402}, five[5] = {4329600, 0, 1, 0, 3}, three[3] = {1, 2164800, 1};
-    struct numbers n = {.N = 2, .g = 1, .L = 31, .M = 16, .s = 1, .d = 1};
+    struct numbers n = {.N = 2, .g = 1, .L = 31, .W = 2, .M = 16, .s = 1, .d = 1};
     at("%s: a bound at the limit", call->name);
     lookup_answers(call, n, blocks, one, classes, (struct answer){0, 134217727, 1}, words);
     lookup_answers(call, n, blocks, next, classes, (struct answer){9, 134217851, 0}, words);
@@ -164,7 +164,7 @@ static void picks_the_only_entry(const struct call *call)
     n.s = 2;
     lookup_answers(call, n, none, none, two, (struct answer){0, 0, 0}, words2);
     /* A gadget that rounds away all but one bit: without a CMux there is no noise. */
-    lookup_answers(call, (struct numbers){.N = 1, .g = 1, .L = 1, .M = 65536, .s = 1}, none, none, one,
+    lookup_answers(call, (struct numbers){.N = 1, .g = 1, .L = 1, .W = 1, .M = 65536, .s = 1}, none, none, one,
                    (struct answer){0, 0, 0}, words1);
 }
 
@@ -198,10 +198,10 @@ void lookup_reports(const struct call *call, struct numbers n, uint32_t amplitud
     free_arguments(&a);
 }
 
-/* N = 1,024, g = 8, L = 2, M = 16: a charge is 34111488, so three selectors are accepted, four are refused. */
+/* N = W = 1,024, g = 8, L = 2, M = 16: a charge is 34111488, so three selectors are accepted, four are refused. */
 static void largest_degree(const struct call *call)
 {
-    struct numbers n = {.N = 1024, .g = 8, .L = 2, .M = 16, .s = 512, .d = 3};
+    struct numbers n = {.N = 1024, .g = 8, .L = 2, .W = 1024, .M = 16, .s = 512, .d = 3};
     lookup_reports(call, n, 1, (struct answer){0, 102334464, 7});
     n.d = 4;
     lookup_reports(call, n, 1, (struct answer){9, 136445952, 0});

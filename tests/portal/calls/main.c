@@ -1,14 +1,6 @@
 /* Every call and every sister, accepted and with each of its refusals. */
 #include "calls.h"
 
-int can_refuse(const struct call *call, uint32_t number)
-{
-    for (size_t i = 0; call->refusals[i]; i++)
-        if (call->refusals[i] == number)
-            return 1;
-    return 0;
-}
-
 int main(void)
 {
     start("calls");
@@ -21,6 +13,7 @@ int main(void)
     test_refusals();
     test_numbers();
     test_gadgets();
+    test_weights();
     test_amplitudes();
     test_limits();
     test_hidden_limits();

@@ -23,7 +23,9 @@ static uint32_t answer_for(const struct call *call, struct numbers n, char lette
         return is_power(n.N, 1, 1024) ? 0 : 1;
     case 'g':
     case 'L':
-        return lawful_gadget((struct gadget){n.g, n.L}) ? 0 : 2;
+        return lawful_gadget(gadget_of(n)) ? 0 : 2;
+    case 'W':
+        return n.W <= n.N ? 0 : 12;
     case 'M':
         return is_power(n.M, 2, 65536) ? 0 : 3;
     case 's':
@@ -66,7 +68,7 @@ static void test_value(const struct call *call, char letter, uint64_t N, uint64_
         refuse(&a, want);
         empty_slices(&a);
         /* Empty slices are a fault of their own, judged before amplitudes and bits. */
-        refuse(&a, want < 5 ? want : 5);
+        refuse(&a, comes_before(want, 5) ? want : 5);
     }
     free_arguments(&a);
 }

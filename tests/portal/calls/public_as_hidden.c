@@ -60,6 +60,7 @@ static void test_call(const struct call *call)
                 struct gadget gadget = turn % 2 ? (struct gadget){16, 2} : (struct gadget){6, 4};
                 struct numbers n = {.N = N, .M = UINT64_C(2) << below(16), .g = gadget.g, .L = gadget.L, .d = d};
                 n.s = 1 + below(most_classes(call, N));
+                n.W = choose_weight(N);
                 test_job(call, n);
             }
 }

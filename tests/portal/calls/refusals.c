@@ -1,5 +1,5 @@
 /*
- * Every refusal of every call alone, and any two faults at once: the lower number is returned. A fault is
+ * Every refusal of every call alone, and any two faults at once: the number that is checked first is returned. A fault is
  * put into lawful arguments whose slices fit the numbers, so nothing else is wrong with them.
  */
 #include "calls.h"
@@ -17,11 +17,17 @@ struct fault {
     uint64_t value;
 };
 
-/* In rising number, the order in which they are put in: a length goes by the numbers that are judged before it. */
+/*
+ * In the order in which they are checked, in which they are put in: a length goes by the numbers that are judged before it.
+ * N is 8: of the weights above it some would be lawful if they were cut to 32 bits, or to fewer.
+ */
 static const struct fault faults[] = {
     {1, NUMBER, 'N', 0}, {1, NUMBER, 'N', 3}, {1, NUMBER, 'N', 6}, {1, NUMBER, 'N', 2048},
     {2, NUMBER, 'g', 0}, {2, NUMBER, 'g', 11}, {2, NUMBER, 'g', 17}, {2, NUMBER, 'g', UINT64_C(4294967303)},
     {2, NUMBER, 'L', 0}, {2, NUMBER, 'L', 5}, {2, NUMBER, 'L', 33}, {2, NUMBER, 'L', UINT64_C(4294967299)},
+    {12, NUMBER, 'W', 9}, {12, NUMBER, 'W', 1024}, {12, NUMBER, 'W', UINT64_C(4294967296)},
+    {12, NUMBER, 'W', UINT64_C(4294967299)}, {12, NUMBER, 'W', UINT64_C(9223372036854775808)},
+    {12, NUMBER, 'W', UINT64_MAX},
     {3, NUMBER, 'M', 0}, {3, NUMBER, 'M', 1}, {3, NUMBER, 'M', 24}, {3, NUMBER, 'M', 131072},
     {4, NUMBER, 's', 0}, {4, NUMBER, 's', 2}, {4, NUMBER, 's', 9}, {4, NUMBER, 's', 3000},
     {4, NUMBER, 'p', 8}, {4, NUMBER, 'p', 9}, {4, NUMBER, 'p', 3000},
@@ -40,7 +46,7 @@ static const struct fault faults[] = {
     {8, FIRST_WORD, KEY, 2}, {8, LAST_WORD, KEY, 2}, {8, LAST_WORD, KEY, UINT32_MAX},
     {9, FIRST_WORD, ERRORS, 134217728}, {9, LAST_WORD, ERRORS, UINT32_C(4160749568)},
     {9, LAST_WORD, ERRORS, UINT32_C(2147483648)},
-    {9, LAST_WORD, AMPLITUDES, 43682}, {9, LAST_WORD, AMPLITUDES, 43685},
+    {9, LAST_WORD, AMPLITUDES, 43686}, {9, LAST_WORD, AMPLITUDES, 43689},
     {9, LAST_WORD, AMPLITUDES, UINT32_C(2147483648)},
     {9, LAST_WORD, SAMPLE_AMPLITUDES, 134217728}, {9, LAST_WORD, SAMPLE_AMPLITUDES, UINT32_C(2147483648)},
 };
@@ -48,16 +54,21 @@ static const struct fault faults[] = {
 enum { FAULTS = sizeof faults / sizeof faults[0] };
 
 /*
- * N = 8, M = 16: the limit of errors and bounds is 134217728. g = 7, L = 3: g is lawful up to 10, L up to 4. There is
+ * N = 8, M = 16: the limit of errors and bounds is 134217728. g = 7, L = 3: g is lawful up to 10, L up to 4. W = 4. There is
  * a selector more than usual, so that every table has two samples at least. A charge is 3072 times the amplitude and
- * 9216, so with three selectors 43682 is the least amplitude that is too great beside 0s, and with four it is too great
+ * 5120, so with three selectors 43686 is the least amplitude that is too great beside 0s, and with four it is too great
  * as well.
  */
-static void start_lawful(struct arguments *a, const struct call *call)
+static void start_lawful(struct arguments *a, const struct call *call, uint64_t d)
 {
     struct numbers n = usual(call, 8);
-    n.d++;
+    n.d = d;
     lawful(a, call, n, 7);
+}
+
+static uint64_t one_more_selector(const struct call *call)
+{
+    return usual(call, 8).d + 1;
 }
 
 /* Up to where s and d are lawful goes by the call: what is at fault in one packing need not be in another. */
@@ -74,7 +85,7 @@ static int put_number_fault(struct arguments *a, const struct fault *f)
         return 0;
     *number = f->value;
     /* Numbers that are judged after the lengths have none to fit, and a bad length stays. */
-    if (f->refusal < 5)
+    if (comes_before(f->refusal, 5))
         fit(a);
     return 1;
 }
@@ -125,56 +136,72 @@ static void test_alone(const struct call *call)
     for (size_t i = 0; i < FAULTS; i++) {
         const struct fault *f = &faults[i];
         at("fault %zu alone, refusal %" PRIu32, i, f->refusal);
-        start_lawful(&a, call);
+        start_lawful(&a, call, one_more_selector(call));
         if (!put_fault(&a, f))
             continue;
         refuse_with(&a, f->refusal);
-        for (size_t r = 0; call->refusals[r]; r++)
-            reached[r] |= call->refusals[r] == f->refusal;
+        reached[f->refusal] = 1;
         check_call(&a, can_refuse(call, f->refusal), "it isn't listed that the call refuses so");
     }
     at("%s: its refusals", call->name);
-    for (size_t r = 0; call->refusals[r]; r++)
-        check(reached[r], "none of the faults reaches refusal %" PRIu32, call->refusals[r]);
+    for (uint32_t r = 0; r < MAX_REFUSALS; r++)
+        check(reached[r] == can_refuse(call, r), "refusal %" PRIu32 ": faults reach it, or it is listed, and not both", r);
     free_arguments(&a);
 }
 
-static void test_pairs(const struct call *call)
+static void test_pair(const struct call *call, uint64_t d, const struct fault *first, const struct fault *second)
 {
     struct arguments a = {0};
+    at("faults %td and %td at once, refusals %" PRIu32 " and %" PRIu32 ", d = %" PRIu64, first - faults, second - faults,
+       first->refusal, second->refusal, d);
+    start_lawful(&a, call, d);
+    if (put_fault(&a, first) && put_fault(&a, second))
+        refuse(&a, first->refusal);
+    free_arguments(&a);
+}
+
+/* A weight is also judged where there is no selector to be charged. */
+static void test_pairs(const struct call *call)
+{
     for (size_t i = 0; i < FAULTS; i++)
         for (size_t j = i + 1; j < FAULTS; j++) {
             if (faults[i].refusal == faults[j].refusal)
                 continue;
-            at("faults %zu and %zu at once, refusals %" PRIu32 " and %" PRIu32, i, j, faults[i].refusal,
-               faults[j].refusal);
-            start_lawful(&a, call);
-            if (put_fault(&a, &faults[i]) && put_fault(&a, &faults[j]))
-                refuse(&a, faults[i].refusal);
+            test_pair(call, one_more_selector(call), &faults[i], &faults[j]);
+            if (call->packing != NO_TABLE && (faults[i].refusal == 12 || faults[j].refusal == 12))
+                test_pair(call, 0, &faults[i], &faults[j]);
         }
-    free_arguments(&a);
 }
 
-/* Every fault from one refusal up, one of each, and those below left out. */
-static void test_all_from(const struct call *call, size_t first)
+/* Every fault from one refusal on, one of each, and those that are checked before it left out. */
+static void test_all_from(const struct call *call, uint32_t first)
 {
     struct arguments a = {0};
     uint32_t before = 0;
-    at("every fault from refusal %" PRIu32 " up", call->refusals[first]);
-    start_lawful(&a, call);
+    at("every fault from refusal %" PRIu32 " on", first);
+    start_lawful(&a, call, one_more_selector(call));
     for (size_t i = 0; i < FAULTS; i++)
-        if (faults[i].refusal >= call->refusals[first] && faults[i].refusal != before && put_fault(&a, &faults[i]))
+        if (!comes_before(faults[i].refusal, first) && faults[i].refusal != before && put_fault(&a, &faults[i]))
             before = faults[i].refusal;
-    refuse_with(&a, call->refusals[first]);
+    refuse_with(&a, first);
     free_arguments(&a);
+}
+
+static void test_order(void)
+{
+    at("the faults of this file");
+    for (size_t i = 1; i < FAULTS; i++)
+        check(!comes_before(faults[i].refusal, faults[i - 1].refusal), "fault %zu isn't in its place", i);
 }
 
 void test_refusals(void)
 {
+    test_order();
     for (size_t c = 0; all_calls[c]; c++) {
         test_alone(all_calls[c]);
         test_pairs(all_calls[c]);
-        for (size_t first = 0; all_calls[c]->refusals[first]; first++)
-            test_all_from(all_calls[c], first);
+        for (const uint32_t *first = refusal_order; *first; first++)
+            if (can_refuse(all_calls[c], *first))
+                test_all_from(all_calls[c], *first);
     }
 }

@@ -77,12 +77,12 @@ static void picks_a_cell(const struct call *call, uint32_t h)
     picks(call, (struct numbers){.N = MAX_N, .g = 16, .L = 2, .M = M, .s = 1, .d = 12}, classes, h, body, 13);
 }
 
-/* N = 2, g = 1, L = 31, as in the horizontal packing: an amplitude is charged 124 times, and each selector 3. */
+/* N = W = 2, g = 1, L = 31, as in the horizontal packing: an amplitude is charged 124 times, and each selector 3. */
 static void bounds_at_the_limit(const struct call *call)
 {
     static const uint32_t blocks[5 * 248], classes[32], words[2 * 2 * 7];
     const uint32_t five[5] = {4329600, 0, 1, 0, 3}, more[5] = {4329600, 0, 1, 1, 3};
-    const struct numbers n = {.N = 2, .g = 1, .L = 31, .M = 4, .s = 1, .d = 5};
+    const struct numbers n = {.N = 2, .g = 1, .L = 31, .W = 2, .M = 4, .s = 1, .d = 5};
     at("%s: a bound at the limit", call->name);
     lookup_answers(call, n, blocks, five, classes, (struct answer){0, 536870911, 16}, words);
     lookup_answers(call, n, blocks, more, classes, (struct answer){9, 536871035, 0}, words);
@@ -91,7 +91,7 @@ static void bounds_at_the_limit(const struct call *call)
 /* A charge of 34111488, which three selectors may have and four may not; and sixteen charges of 2^58. */
 static void largest_degree(const struct call *call)
 {
-    struct numbers n = {.N = 1024, .g = 8, .L = 2, .M = 16, .s = 1, .d = 3};
+    struct numbers n = {.N = 1024, .g = 8, .L = 2, .W = 1024, .M = 16, .s = 1, .d = 3};
     lookup_reports(call, n, 1, (struct answer){0, 102334464, 3});
     n.d = 4;
     lookup_reports(call, n, 1, (struct answer){9, 136445952, 0});

@@ -19,11 +19,6 @@ static uint64_t value(struct arguments *a, char letter)
     return *number;
 }
 
-static struct gadget gadget_of(struct arguments *a)
-{
-    return (struct gadget){value(a, 'g'), value(a, 'L')};
-}
-
 /* What a call reports that has a limit for its bound. */
 static struct answer limited(struct arguments *a, uint64_t bound, uint64_t gates)
 {
@@ -85,34 +80,35 @@ static struct answer selector_encrypted(struct arguments *a, uint32_t *want)
     read_words(key, MAX_SAMPLE, slice_of(a, KEY));
     read_words(masks, MAX_WORDS, slice_of(a, ROW_MASKS));
     read_words(errors, MAX_WORDS, slice_of(a, ROW_ERRORS));
-    encrypted_block(want, gadget_of(a), N, (uint32_t)value(a, 'm'), key, masks, errors);
+    encrypted_block(want, gadget_of(numbers_of(a)), N, (uint32_t)value(a, 'm'), key, masks, errors);
     return (struct answer){0, greatest_magnitude(errors, 2 * (size_t)value(a, 'L') * N), 0};
 }
 
 static struct answer product_made(struct arguments *a, uint32_t *want)
 {
     static uint32_t block[MAX_WORDS], sample[MAX_SAMPLE];
-    size_t N = (size_t)value(a, 'N');
+    struct numbers n = numbers_of(a);
+    size_t N = (size_t)n.N;
     read_words(block, MAX_WORDS, slice_of(a, BLOCK));
     read_words(sample, MAX_SAMPLE, slice_of(a, SAMPLE));
     for (size_t i = 0; i < 2 * N; i++)
         want[i] = 0;
-    add_external(want, gadget_of(a), N, block, sample);
-    return (struct answer){0, charge_of(gadget_of(a), N, value(a, 'A')) + value(a, 'B'), 0};
+    add_external(want, gadget_of(n), N, block, sample);
+    return (struct answer){0, charge_of(n, n.A) + n.B, 0};
 }
 
 static struct answer sample_picked(struct arguments *a, uint32_t *want)
 {
     static uint32_t block[MAX_WORDS], sample1[MAX_SAMPLE];
-    size_t N = (size_t)value(a, 'N');
-    uint64_t A0 = value(a, '0'), A1 = value(a, '1');
+    struct numbers n = numbers_of(a);
+    size_t N = (size_t)n.N;
     read_words(block, MAX_WORDS, slice_of(a, BLOCK));
     read_words(want, MAX_SAMPLE, slice_of(a, SAMPLE));
     read_words(sample1, MAX_SAMPLE, slice_of(a, SAMPLE1));
     for (size_t i = 0; i < 2 * N; i++)
         sample1[i] -= want[i];
-    add_external(want, gadget_of(a), N, block, sample1);
-    return (struct answer){0, (A0 > A1 ? A0 : A1) + charge_of(gadget_of(a), N, value(a, 'A')), 1};
+    add_external(want, gadget_of(n), N, block, sample1);
+    return (struct answer){0, (n.A0 > n.A1 ? n.A0 : n.A1) + charge_of(n, n.A), 1};
 }
 
 /* The table as it is lent: its classes, or its samples with their amplitudes. */

@@ -19,11 +19,16 @@ uint32_t step_of(struct gadget gadget, uint64_t j)
     return (uint32_t)power_of_two(32 - gadget.g * j);
 }
 
-uint64_t charge_of(struct gadget gadget, uint64_t N, uint64_t amplitude)
+struct gadget gadget_of(struct numbers n)
 {
-    uint64_t digits = gadget.g * gadget.L, half = (uint64_t)power_of_two(gadget.g - 1);
+    return (struct gadget){n.g, n.L};
+}
+
+uint64_t charge_of(struct numbers n, uint64_t amplitude)
+{
+    uint64_t digits = n.g * n.L, half = (uint64_t)power_of_two(n.g - 1);
     uint64_t E = digits == 32 ? 0 : (uint64_t)power_of_two(31 - digits);
-    return 2 * gadget.L * N * half * amplitude + (1 + N) * E;
+    return 2 * n.L * n.N * half * amplitude + (1 + n.W) * E;
 }
 
 /*

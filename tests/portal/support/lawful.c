@@ -23,7 +23,7 @@ uint64_t *value_of(struct numbers *n, char letter)
         char letter;
         uint64_t *value;
     } values[] = {
-        {'N', &n->N}, {'M', &n->M}, {'s', &n->s}, {'p', &n->p}, {'g', &n->g}, {'L', &n->L},
+        {'N', &n->N}, {'M', &n->M}, {'s', &n->s}, {'p', &n->p}, {'g', &n->g}, {'L', &n->L}, {'W', &n->W},
         {'m', &n->m}, {'A', &n->A}, {'B', &n->B}, {'0', &n->A0}, {'1', &n->A1}, {'d', &n->d},
     };
     for (size_t i = 0; i < sizeof values / sizeof values[0]; i++)
@@ -42,14 +42,15 @@ struct numbers numbers_of(const struct arguments *a)
 }
 
 /*
- * g*L is below 32, so that digits are rounded; the amplitudes differ, so that none passes for another. Three selectors
+ * g*L is below 32, so that digits are rounded; the amplitudes differ, so that none passes for another, and so do N and
+ * the weight. Three selectors
  * of a vertical lookup pick and rotate at N = 2 and 4; at N = 1 they pick alone, from N = 8 on they rotate alone.
  */
 struct numbers usual(const struct call *call, uint64_t N)
 {
     return (struct numbers){
-        .N = N, .M = 16, .s = (most_classes(call, N) + 1) / 2, .p = N / 2, .g = 7, .L = 3, .m = 1, .A = 5, .B = 900,
-        .A0 = 1000, .A1 = 2000, .d = call->packing == VERTICAL ? 3 : 2,
+        .N = N, .M = 16, .s = (most_classes(call, N) + 1) / 2, .p = N / 2, .g = 7, .L = 3, .W = N / 2, .m = 1, .A = 5,
+        .B = 900, .A0 = 1000, .A1 = 2000, .d = call->packing == VERTICAL ? 3 : 2,
     };
 }
 

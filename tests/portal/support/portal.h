@@ -18,7 +18,8 @@
 #include <stddef.h>
 #include <stdint.h>
 
-enum { MAX_NUMBERS = 8, MAX_SLICES = 8, MAX_REFUSALS = 16 };
+/* The most that there are; the number of every refusal is below the last. */
+enum { MAX_CALLS = 16, MAX_NUMBERS = 8, MAX_SLICES = 8, MAX_REFUSALS = 32 };
 
 /* ---- table.c ---- */
 
@@ -44,7 +45,7 @@ struct call {
     const char *numbers; /* a letter each, in order; struct numbers has them */
     enum kind kind[MAX_SLICES];
     size_t slices, written;
-    uint32_t refusals[MAX_REFUSALS]; /* every number it can refuse with, rising, then 0 */
+    uint32_t refusals; /* those that it can refuse with: bit r for the number r */
     uint32_t (*answer)(const uint64_t *number, const struct lent *slice);
     uint64_t (*bound)(const uint64_t *number, const struct lent *slice);
     uint64_t (*gates)(const uint64_t *number, const struct lent *slice);
@@ -56,8 +57,20 @@ extern const struct call encrypt_selector, external_product, cmux;
 extern const struct call lookup, lookup_vertical, lookup_hidden, lookup_hidden_vertical;
 
 /* Every call, then NULL; and every one with a table. */
-extern const struct call *const all_calls[];
+extern const struct call *const all_calls[MAX_CALLS];
 extern const struct call *const all_lookups[];
+
+/*
+ * The numbers of refusals in the order in which a call checks them, then 0. It isn't that of the numbers: a later rule
+ * can stand beside an earlier one, as 12, which is judged by N, stands after 1 and 2.
+ */
+extern const uint32_t refusal_order[];
+
+/* Whether a call can refuse with this number. */
+int can_refuse(const struct call *call, uint32_t number);
+
+/* Whether one refusal is checked before another. */
+int comes_before(uint32_t refusal, uint32_t other);
 
 /* Whether a call is lent its table as encrypted samples. */
 int is_hidden(const struct call *call);
@@ -149,9 +162,14 @@ uint64_t next_random(uint64_t *state);
 void seed_random(uint64_t seed);
 uint64_t below(uint64_t end);
 
-/* Words with centred readings from -most to most, and a key: at random, or all of them an extreme. */
+/* Words with centred readings from -most to most: at random, or all of them an extreme. */
 void choose_words(uint32_t *words, size_t count, uint64_t most);
-void choose_key(uint32_t *key, size_t N);
+
+/* A weight for keys of N words: an extreme, a small one, or any. */
+uint64_t choose_weight(uint64_t N);
+
+/* A key of at most this weight: at random, or as heavy as it may be, or with no 1 or a single one. */
+void choose_key(uint32_t *key, size_t N, uint64_t weight);
 
 /* ---- lawful.c ---- */
 
@@ -163,10 +181,11 @@ struct bytes *slice_of(struct arguments *a, enum kind kind);
 
 /*
  * The values of numbers, whichever of them a call takes. A member's name is its letter, but for a CMux's
- * amplitudes: A0 is '0' and A1 is '1'. Of the other amplitudes A is the block's and B the one sample's.
+ * amplitudes: A0 is '0' and A1 is '1'. Of the other amplitudes A is the block's and B the one sample's. W is the weight
+ * that is declared for the key.
  */
 struct numbers {
-    uint64_t N, M, s, p, g, L, m, A, B, A0, A1, d;
+    uint64_t N, M, s, p, g, L, W, m, A, B, A0, A1, d;
 };
 
 /* The value with this letter. */
@@ -222,11 +241,13 @@ struct gadget {
 
 int lawful_gadget(struct gadget gadget);
 
+struct gadget gadget_of(struct numbers n);
+
 /* h_j. */
 uint32_t step_of(struct gadget gadget, uint64_t j);
 
 /* The charge of a block with this amplitude. */
-uint64_t charge_of(struct gadget gadget, uint64_t N, uint64_t amplitude);
+uint64_t charge_of(struct numbers n, uint64_t amplitude);
 
 /* The block that encrypts the bit m. */
 void encrypted_block(uint32_t *block, struct gadget gadget, size_t N, uint32_t m, const uint32_t *key,
@@ -268,8 +289,9 @@ struct table {
     const uint32_t *classes, *samples, *amplitudes;
 };
 
-/* A lookup's job. Selector i has amplitude i and block i. */
+/* A lookup's job: its numbers, and those of them that the formulas of words go by. Selector i has amplitude i and block i. */
 struct job {
+    struct numbers numbers;
     struct gadget gadget;
     size_t N, s, d, rotating, count; /* of samples */
     uint64_t M;

@@ -56,10 +56,34 @@ void choose_words(uint32_t *words, size_t count, uint64_t most)
         words[i] = (uint32_t)chosen(choice, (int64_t)most, i, marked);
 }
 
-void choose_key(uint32_t *key, size_t N)
+uint64_t choose_weight(uint64_t N)
 {
-    enum choice choice = any_choice();
-    size_t marked = (size_t)below(N);
+    const uint64_t weights[] = {N, N, 0, 1, N / 2, N - 1, below(N + 1), below(below(N + 1) + 1)};
+    return weights[below(sizeof weights / sizeof weights[0])];
+}
+
+static size_t any_ones(size_t most)
+{
+    const size_t ones[] = {most, most, most < 1 ? most : 1, 0, (size_t)below(most + 1)};
+    return ones[below(sizeof ones / sizeof ones[0])];
+}
+
+static void shuffle(uint32_t *words, size_t count)
+{
+    for (size_t i = count; i > 1; i--) {
+        size_t other = (size_t)below(i);
+        uint32_t word = words[i - 1];
+        words[i - 1] = words[other];
+        words[other] = word;
+    }
+}
+
+/* The ones stand in a row, which goes on from the last place to the first; or anywhere. */
+void choose_key(uint32_t *key, size_t N, uint64_t weight)
+{
+    size_t ones = any_ones((size_t)weight), start = (size_t)below(N);
     for (size_t i = 0; i < N; i++)
-        key[i] = choice == RANDOM ? (uint32_t)below(2) : chosen(choice, 1, i, marked) != 0;
+        key[(start + i) % N] = i < ones;
+    if (below(4))
+        shuffle(key, N);
 }

@@ -15,12 +15,12 @@ uint64_t limit_of(struct numbers n)
 
 uint64_t rounding_of(struct numbers n)
 {
-    return charge_of((struct gadget){n.g, n.L}, n.N, 0);
+    return charge_of(n, 0);
 }
 
 uint64_t unit_of(struct numbers n)
 {
-    return charge_of((struct gadget){n.g, n.L}, n.N, 1) - rounding_of(n);
+    return charge_of(n, 1) - rounding_of(n);
 }
 
 uint64_t most_amplitudes(struct numbers n)
@@ -51,7 +51,7 @@ struct job job_of(const struct call *call, struct numbers n, const uint32_t *blo
                   struct table table)
 {
     return (struct job){
-        .gadget = {n.g, n.L}, .N = (size_t)n.N, .s = (size_t)n.s, .d = (size_t)n.d, .M = n.M,
+        .numbers = n, .gadget = gadget_of(n), .N = (size_t)n.N, .s = (size_t)n.s, .d = (size_t)n.d, .M = n.M,
         .rotating = (size_t)rotating_of(call, n.N, n.d), .count = (size_t)samples_of(call, n.N, n.d),
         .blocks = blocks, .amplitudes = amplitudes, .table = table,
     };
@@ -61,7 +61,7 @@ uint64_t charges_of(const struct job *job)
 {
     uint64_t sum = 0;
     for (size_t i = 0; i < job->d; i++)
-        sum += charge_of(job->gadget, job->N, job->amplitudes[i]);
+        sum += charge_of(job->numbers, job->amplitudes[i]);
     return sum;
 }
 

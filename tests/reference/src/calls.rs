@@ -9,7 +9,7 @@ mod samples;
 mod signature;
 
 pub use bytes::{bytes_of, words_of};
-pub use signature::{Call, Number, Signature, Slice, CALLS};
+pub use signature::{Call, Number, Signature, Slice, CALLS, ORDER};
 
 #[derive(Clone, Debug, PartialEq, Eq)]
 pub struct Outcome {

@@ -48,23 +48,65 @@ impl Block {
     }
 }
 
-/// What an external product with a block of this amplitude adds to the noise.
-pub fn charge(gadget: Gadget, degree: usize, amplitude: i64) -> i128 {
-    let rows = 2 * gadget.digits() as i128;
-    let products = rows * degree as i128 * gadget.greatest_digit() as i128 * amplitude as i128;
-    products + (1 + degree as i128) * gadget.greatest_remainder() as i128
+/// What a charge goes by, beside the amplitude of a block.
+#[derive(Clone, Copy, Debug)]
+pub struct Scheme {
+    pub degree: u64,
+    pub gadget: Gadget,
+    /// The most words of the key that are 1.
+    pub weight: u64,
+}
+
+impl Scheme {
+    /// What an external product with a block of this amplitude adds to the noise.
+    pub fn charge(&self, amplitude: i64) -> i128 {
+        let rows = 2 * self.gadget.digits() as i128;
+        let digit = i128::from(self.gadget.greatest_digit());
+        let products = rows * i128::from(self.degree) * digit * i128::from(amplitude);
+        products + (1 + i128::from(self.weight)) * i128::from(self.gadget.greatest_remainder())
+    }
 }
 
 #[cfg(test)]
 mod tests {
     use super::*;
+    use crate::torus::distance;
+
+    fn scheme(degree: u64, gadget: Gadget, weight: u64) -> Scheme {
+        Scheme { degree, gadget, weight }
+    }
 
     #[test]
     fn charges_of_document_01() {
-        assert_eq!(charge(Gadget::new(16, 2), 1, 7), 917504);
-        assert_eq!(charge(Gadget::new(16, 2), 1, 1023), 134086656);
-        assert_eq!(charge(Gadget::new(16, 2), 1, 1024), 134217728);
-        assert_eq!(charge(Gadget::new(8, 2), 1024, 1), 34111488);
+        let job_j = scheme(1, Gadget::new(16, 2), 1);
+        assert_eq!([7, 1023, 1024].map(|amplitude| job_j.charge(amplitude)), [917504, 134086656, 134217728]);
+        assert_eq!(scheme(1024, Gadget::new(8, 2), 1024).charge(1), 34111488);
+    }
+
+    #[test]
+    fn a_unit_of_weight_is_charged_the_greatest_remainder() {
+        for gadget in [Gadget::new(8, 2), Gadget::new(1, 31), Gadget::new(16, 2), Gadget::new(1, 1)] {
+            let remainder = i128::from(gadget.greatest_remainder());
+            let without = scheme(1024, gadget, 0).charge(5) - remainder;
+            for weight in [0, 1, 2, 511, 1024] {
+                let rounding = (1 + i128::from(weight)) * remainder;
+                assert_eq!(scheme(1024, gadget, weight).charge(5), without + rounding);
+            }
+        }
+    }
+
+    /// Remainders of -E each, and a key with its ones above the constant place: in coefficient 0 all of them come with one sign.
+    #[test]
+    fn the_rounding_of_a_charge_is_met() {
+        let gadget = Gadget::new(8, 2);
+        let greatest = gadget.greatest_remainder();
+        let [degree, weight] = [8, 5];
+        let key: Vec<i64> = (0..degree).map(|i| (1..=weight).contains(&i).into()).collect();
+        let nothing = vec![zero(degree as usize); 4];
+        let block = Block::encrypt(gadget, 1, &key, &nothing, &nothing);
+        let sample = Sample { mask: vec![word(-greatest); 8], body: vec![word(-greatest); 8] };
+        let phases = [block.external_product(&sample), sample].map(|sample| sample.phase(&key)[0]);
+        assert_eq!(distance(phases[0], phases[1]), (1 + weight) * greatest);
     }
 
     #[test]

@@ -1,9 +1,10 @@
-//! The checks behind refusals 1 to 9, one for each thing that document 01's table names.
+//! The checks behind refusals, one for each thing that document 01's table and the papers name.
 
 use super::{Answer, Call, Refusal, Report};
 use crate::classes::Classes;
 use crate::gadget::Gadget;
 use crate::torus::HALF_TURN;
+use crate::trgsw::Scheme;
 
 pub type Checked = Result<(), Refusal>;
 
@@ -23,6 +24,18 @@ pub fn gadget(base_log: u64, digits: u64) -> Result<Gadget, Refusal> {
     let bits = u128::from(base_log) * u128::from(digits);
     check(2, (1..=16).contains(&base_log) && digits > 0 && bits <= 32)?;
     Ok(Gadget::new(base_log, digits))
+}
+
+pub fn weight(w: u64, n: u64) -> Checked {
+    check(12, w <= n)
+}
+
+/// Those of every call that has a charge.
+pub fn scheme(n: u64, g: u64, l: u64, w: u64) -> Result<Scheme, Refusal> {
+    degree(n)?;
+    let gadget = gadget(g, l)?;
+    weight(w, n)?;
+    Ok(Scheme { degree: n, gadget, weight: w })
 }
 
 pub fn class_count(m: u64) -> Result<Classes, Refusal> {

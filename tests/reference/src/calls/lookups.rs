@@ -4,7 +4,7 @@ use super::bytes::words_of;
 use super::{checks, Answer, Call, Refusal};
 use crate::classes::Classes;
 use crate::lookup::look_up;
-use crate::trgsw::{charge, Block};
+use crate::trgsw::Block;
 use crate::trlwe::Sample;
 
 /// A sample of a table, and its declared amplitude: 0 if it is public.
@@ -15,9 +15,8 @@ struct Leaf {
 
 pub fn lookup(call: Call, numbers: &[u64], slices: &[&[u8]]) -> Answer {
     let packing = call.packing().expect("a call with a table");
-    let [n, g, l, m, s, d] = checks::numbers_of(numbers);
-    checks::degree(n)?;
-    let gadget = checks::gadget(g, l)?;
+    let [n, g, l, w, m, s, d] = checks::numbers_of(numbers);
+    let scheme = checks::scheme(n, g, l, w)?;
     let classes = checks::class_count(m)?;
     checks::carried(s, packing.most_carried(n))?;
     checks::depth(d, packing.most_selectors())?;
@@ -33,11 +32,12 @@ pub fn lookup(call: Call, numbers: &[u64], slices: &[&[u8]]) -> Answer {
         public_leaves(&table, classes, (s as usize) << rotating, degree)
     };
     let greatest = leaves.iter().map(|leaf| leaf.amplitude).max().expect("a table has a sample");
-    let charges: i128 = amplitudes.iter().map(|&amplitude| charge(gadget, degree, amplitude)).sum();
+    let charges: i128 = amplitudes.iter().map(|&amplitude| scheme.charge(amplitude)).sum();
     let bound = charges + i128::from(greatest);
     checks::bound_below_limit(bound, classes)?;
     let blocks = words_of(slices[0]);
-    let blocks = blocks.chunks(4 * gadget.digits() * degree).map(|words| Block::from_words(gadget, words));
+    let block = |words| Block::from_words(scheme.gadget, words);
+    let blocks = blocks.chunks(4 * scheme.gadget.digits() * degree).map(block);
     let samples = leaves.into_iter().map(|leaf| leaf.sample).collect();
     let sample = look_up(&blocks.collect::<Vec<_>>(), rotating, samples);
     let place = slices.len() - 2;
@@ -81,12 +81,12 @@ mod tests {
         let amplitudes = bytes_of(&[amplitude]);
         let table = bytes_of(&[3, 8]);
         let slices = [&blocks[..], &amplitudes, &table, &[9; 8], &[9; 16]];
-        run(call, &[1, 16, 2, 16, 1, 1], &slices)
+        run(call, &[1, 16, 2, 1, 16, 1, 1], &slices)
     }
 
     /// So many selectors of an amplitude, with g = 8 and L = 2, and words 0 in all other slices.
-    fn zeros(call: Call, n: u64, m: u64, s: u64, d: u64, amplitude: i64) -> Outcome {
-        let numbers = [n, 8, 2, m, s, d];
+    fn zeros(call: Call, n: u64, w: u64, m: u64, s: u64, d: u64, amplitude: i64) -> Outcome {
+        let numbers = [n, 8, 2, w, m, s, d];
         let words = |&count: &u128| vec![0; 4 * count as usize];
         let mut slices: Vec<Vec<u8>> = call.exact_lengths(&numbers).iter().map(words).collect();
         slices[1] = bytes_of(&vec![amplitude; d as usize]);
@@ -98,7 +98,7 @@ mod tests {
         let blocks = bytes_of(&[65536, 0, 1, 0, 0, 65536, 0, 1]);
         let samples = bytes_of(&[5, 6, 7, 8]);
         let slices = [&blocks[..], &bytes_of(&[7]), &samples, &bytes_of(&amplitudes), &[9; 8], &[9; 16]];
-        run(call, &[1, 16, 2, 16, 1, 1], &slices)
+        run(call, &[1, 16, 2, 1, 16, 1, 1], &slices)
     }
 
     fn reported(outcome: &Outcome) -> (u32, u64, u64) {
@@ -127,14 +127,33 @@ mod tests {
     #[test]
     fn three_selectors_are_accepted_and_four_get_nine() {
         for (call, gates) in LOOKUPS.into_iter().zip([7, 3]) {
-            assert_eq!(reported(&zeros(call, 1024, 16, 1, 3, 1)), (0, 3 * 34111488, gates));
-            assert_eq!(reported(&zeros(call, 1024, 16, 1, 4, 1)), (9, 4 * 34111488, 0));
+            assert_eq!(reported(&zeros(call, 1024, 1024, 16, 1, 3, 1)), (0, 3 * 34111488, gates));
+            assert_eq!(reported(&zeros(call, 1024, 1024, 16, 1, 4, 1)), (9, 4 * 34111488, 0));
+        }
+    }
+
+    #[test]
+    fn four_selectors_are_accepted_under_a_lighter_key() {
+        for (call, gates) in LOOKUPS.into_iter().zip([15, 4]) {
+            assert_eq!(reported(&zeros(call, 1024, 1006, 16, 1, 4, 1)), (0, 134217728 - 4 * 32768, gates));
+            assert_eq!(reported(&zeros(call, 1024, 1007, 16, 1, 4, 1)), (9, 134217728, 0));
+        }
+    }
+
+    #[test]
+    fn a_weight_above_the_degree_is_refused_whatever_is_wrong_after_it() {
+        for call in [LOOKUPS, HIDDEN].concat() {
+            for w in [3, 1 << 32, (1 << 32) + 2, u64::MAX] {
+                for (m, s, d) in [(16, 1, 0), (16, 1, 1), (3, 1, 1), (16, 0, 17)] {
+                    assert_eq!(reported(&zeros(call, 2, w, m, s, d, 0)), (12, 0, 0));
+                }
+            }
         }
     }
 
     #[test]
     fn how_many_selectors_and_classes_goes_by_the_packing() {
-        let [whole, vertical] = LOOKUPS.map(|call| move |s, d| zeros(call, 2, 2, s, d, 0).number);
+        let [whole, vertical] = LOOKUPS.map(|call| move |s, d| zeros(call, 2, 2, 2, s, d, 0).number);
         assert_eq!([whole(1, 10), whole(2, 10), whole(1, 11), whole(3, 1)], [0, 0, 4, 4]);
         assert_eq!([vertical(1, 10), vertical(2, 10), vertical(1, 11), vertical(0, 1)], [0, 4, 0, 4]);
         assert_eq!([vertical(1, 16), vertical(1, 17)], [0, 4]);
@@ -143,7 +162,7 @@ mod tests {
     #[test]
     fn without_selectors_the_sample_is_the_entry() {
         let table = bytes_of(&[5]);
-        let outcome = run(Call::Lookup, &[2, 1, 1, 8, 1, 0], &[&[], &[], &table, &[1; 16], &[1; 16]]);
+        let outcome = run(Call::Lookup, &[2, 1, 1, 2, 8, 1, 0], &[&[], &[], &table, &[1; 16], &[1; 16]]);
         assert_eq!((outcome.number, outcome.bound, outcome.gates), (0, 0, 0));
         assert_eq!(outcome.written[0].1, bytes_of(&[0, 0, 2684354560, 0]));
         assert_eq!(outcome.written[1].1, [0; 16]);
@@ -170,7 +189,7 @@ mod tests {
         for call in HIDDEN {
             for (amplitude, number) in [(134217727, 0), (134217728, 9)] {
                 let slices = [&[][..], &[], &sample, &bytes_of(&[amplitude]), &[1; 16], &[1; 16]];
-                let outcome = run(call, &[2, 8, 2, 16, 1, 0], &slices);
+                let outcome = run(call, &[2, 8, 2, 2, 16, 1, 0], &slices);
                 assert_eq!(reported(&outcome), (number, amplitude as u64, 0));
                 assert!(number == 9 || outcome.written[0].1 == sample);
             }
@@ -184,7 +203,7 @@ mod tests {
         let amplitudes = bytes_of(&[3, 1]);
         let classes = [7, 1, 0, 15, 4, 4, 9, 12];
         for (call, s, held) in [(0, 2, 8), (1, 1, 4)] {
-            let numbers = [2, 8, 2, 16, s, 2];
+            let numbers = [2, 8, 2, 1, 16, s, 2];
             let table = &classes[..held];
             let trivial = |list| Sample::trivial(Classes::new(16).message(list, 2)).words();
             let samples = bytes_of(&table.chunks(2).flat_map(trivial).collect::<Vec<_>>());

@@ -36,6 +36,7 @@ pub enum Number {
     Degree,
     BaseLog,
     Digits,
+    Weight,
     ClassCount,
     Carried,
     Depth,
@@ -60,8 +61,12 @@ pub struct Signature {
     pub name: &'static str,
     pub numbers: &'static [Number],
     pub slices: &'static [Slice],
+    /// In the order in which they are checked.
     pub refusals: &'static [u32],
 }
+
+/// The numbers of refusals in the order in which they are checked, that of the papers: 12 stands directly after 2.
+pub const ORDER: [u32; 10] = [1, 2, 12, 3, 4, 5, 6, 7, 8, 9];
 
 impl Call {
     pub fn signature(self) -> Signature {
@@ -83,8 +88,8 @@ impl Call {
                 let slices = &[Slice::Key, Slice::Words, Slice::Errors, Slice::Written];
                 ("encrypt_selector", numbers, slices, &[1, 2, 5, 7, 8])
             }
-            Call::ExternalProduct => ("external_product", &GATE[..5], &GATE_SLICES[1..], &[1, 2, 5, 6]),
-            Call::Cmux => ("cmux", GATE, GATE_SLICES, &[1, 2, 5, 6]),
+            Call::ExternalProduct => ("external_product", &GATE[..6], &GATE_SLICES[1..], &[1, 2, 12, 5, 6]),
+            Call::Cmux => ("cmux", GATE, GATE_SLICES, &[1, 2, 12, 5, 6]),
             Call::Lookup => ("lookup", LOOKUP, LOOKUP_SLICES, LOOKUP_REFUSALS),
             Call::LookupVertical => ("lookup_vertical", LOOKUP, LOOKUP_SLICES, LOOKUP_REFUSALS),
             Call::LookupHidden => ("lookup_hidden", LOOKUP, HIDDEN_SLICES, HIDDEN_REFUSALS),
@@ -159,20 +164,80 @@ const GATE: &[Number] = &[
     Number::Degree,
     Number::BaseLog,
     Number::Digits,
+    Number::Weight,
     Number::Amplitude,
     Number::Amplitude,
     Number::Amplitude,
 ];
 const GATE_SLICES: &[Slice] = &[Slice::Words, Slice::Words, Slice::Words, Slice::Written];
-const LOOKUP: &[Number] =
-    &[Number::Degree, Number::BaseLog, Number::Digits, Number::ClassCount, Number::Carried, Number::Depth];
+const LOOKUP: &[Number] = &[
+    Number::Degree,
+    Number::BaseLog,
+    Number::Digits,
+    Number::Weight,
+    Number::ClassCount,
+    Number::Carried,
+    Number::Depth,
+];
 const LOOKUP_SLICES: &[Slice] =
     &[Slice::Words, Slice::Amplitudes, Slice::ClassList, Slice::Written, Slice::Written];
-const LOOKUP_REFUSALS: &[u32] = &[1, 2, 3, 4, 5, 6, 7, 9];
+const LOOKUP_REFUSALS: &[u32] = &[1, 2, 12, 3, 4, 5, 6, 7, 9];
 const HIDDEN_SLICES: &[Slice] =
     &[Slice::Words, Slice::Amplitudes, Slice::Words, Slice::SampleAmplitudes, Slice::Written, Slice::Written];
-const HIDDEN_REFUSALS: &[u32] = &[1, 2, 3, 4, 5, 6, 9];
+const HIDDEN_REFUSALS: &[u32] = &[1, 2, 12, 3, 4, 5, 6, 9];
 
 fn times(factors: &[u128]) -> u128 {
     factors.iter().fold(1, |so_far, &factor| so_far.saturating_mul(factor))
+}
+
+#[cfg(test)]
+mod tests {
+    use super::*;
+    use crate::calls::run;
+
+    #[test]
+    fn refusals_are_listed_in_order() {
+        for call in CALLS {
+            let refusals = call.signature().refusals;
+            let in_order: Vec<u32> = ORDER.into_iter().filter(|number| refusals.contains(number)).collect();
+            assert_eq!(refusals, in_order, "{call:?}");
+        }
+    }
+
+    /// A lawful value of a number, one that is not, and the refusal that it then gets.
+    fn values(role: Number) -> (u64, u64, u32) {
+        match role {
+            Number::Degree => (2, 3, 1),
+            Number::BaseLog | Number::Digits => (4, 0, 2),
+            Number::Weight => (2, 5, 12),
+            Number::ClassCount => (16, 3, 3),
+            Number::Carried => (1, 0, 4),
+            Number::Depth => (2, 17, 4),
+            Number::Position => (1, 5, 4),
+            Number::Bit => (1, 2, 7),
+            Number::Amplitude => (1, 1 << 32, 6),
+        }
+    }
+
+    /// Slices are empty. Of the numbers those are at fault that are judged from some refusal on.
+    #[test]
+    fn what_is_checked_first_is_returned() {
+        let place = |number: u32| ORDER.iter().position(|&of| of == number);
+        for call in CALLS {
+            let Signature { numbers, slices, refusals, .. } = call.signature();
+            let up_to_lengths = refusals.iter().filter(|&&first| place(first) <= place(5));
+            for &first in up_to_lengths {
+                let value = |&role: &Number| {
+                    let (lawful, fault, number) = values(role);
+                    if place(number) < place(first) {
+                        lawful
+                    } else {
+                        fault
+                    }
+                };
+                let numbers: Vec<u64> = numbers.iter().map(value).collect();
+                assert_eq!(run(call, &numbers, &vec![&[][..]; slices.len()]).number, first, "{call:?}");
+            }
+        }
+    }
 }

@@ -4,6 +4,7 @@
 mod adversary;
 mod gates;
 mod lookups;
+mod thin;
 
 use crate::crash;
 use crate::options::Options;
@@ -65,25 +66,31 @@ impl Measured {
     }
 }
 
+/// The weights for which the charges have to be met: that of any key, and less.
+const WEIGHTS: [&str; 2] = ["W = N", "0 < W < N"];
+
 #[derive(Default)]
 struct Record {
     jobs: u64,
     degrees: BTreeSet<u64>,
-    nearest: Option<Measured>,
+    /// By weight.
+    nearest: [Option<Measured>; WEIGHTS.len()],
 }
 
 impl Record {
     fn add(&mut self, measured: Measured) {
         self.jobs += 1;
-        self.degrees.insert(measured.parameters.degree);
-        if measured.counts && measured.share() > self.share() {
-            self.nearest = Some(measured);
+        let Parameters { degree, weight, .. } = measured.parameters;
+        self.degrees.insert(degree);
+        let nearest = &mut self.nearest[usize::from(weight < degree)];
+        if weight > 0 && measured.counts && measured.share() > share(nearest) {
+            *nearest = Some(measured);
         }
     }
+}
 
-    fn share(&self) -> f64 {
-        self.nearest.as_ref().map_or(0.0, Measured::share)
-    }
+fn share(nearest: &Option<Measured>) -> f64 {
+    nearest.as_ref().map_or(0.0, Measured::share)
 }
 
 fn run_job(seed: u64, job: u64) -> Result<Measured, String> {
@@ -124,17 +131,24 @@ pub fn all_jobs(options: &Options) -> bool {
     }
     let met = KINDS.iter().zip(&records).filter(|((_, name, least), record)| report(name, *least, record));
     let all_met = met.count() == KINDS.len();
+    let thin_met = thin::all_cases(options.seed);
     println!("seed {}: {wrong} wrong, {:.1} s", options.seed, start.elapsed().as_secs_f64());
-    wrong == 0 && all_met
+    wrong == 0 && all_met && thin_met
 }
 
 /// Whether the jobs met every N and enough of the charges.
 fn report(name: &str, least: f64, record: &Record) -> bool {
     println!("{name}: {} jobs, {} degrees", record.jobs, record.degrees.len());
-    record.nearest.iter().for_each(print_measured);
-    let enough = record.share() >= least && record.degrees.len() == 11;
-    if !enough {
-        println!("NEVER REACHED {name}: all 11 degrees and {least} of the charges");
+    record.nearest.iter().flatten().for_each(print_measured);
+    let mut enough = record.degrees.len() == 11;
+    for (nearest, weights) in record.nearest.iter().zip(WEIGHTS) {
+        if share(nearest) < least {
+            println!("NEVER REACHED {name}: {least} of the charges with {weights}");
+            enough = false;
+        }
+    }
+    if record.degrees.len() < 11 {
+        println!("NEVER REACHED {name}: all 11 degrees");
     }
     enough
 }

@@ -34,6 +34,7 @@ fn near_limit(role: Number, arguments: &Arguments, random: &mut Random) -> u64 {
         Number::Degree => random.pick(&[0, 3, 6, 12, 1023, 1025, 1536, 2048]),
         Number::BaseLog => random.pick(&[0, 16, 17, 32, 33]),
         Number::Digits => random.pick(&[0, 32 / base_log.max(1) + 1, 33, (1 << 60) + 1]),
+        Number::Weight => random.pick(&[degree, degree.saturating_add(1), (1 << 32) | degree, 1 << 32]),
         Number::ClassCount => random.pick(&[0, 1, 3, 12, 65535, 65537, 131072]),
         Number::Carried => random.pick(&[0, degree.saturating_add(1), degree, 1, 2]),
         Number::Depth => random.pick(&[11, 12, 17, 18, 63, 64, 65, 256]),

@@ -1,4 +1,4 @@
-//! The 33 exports of the library under test, called with the numbers and slices of a call.
+//! The exports of the library under test, called with the numbers and slices of a call.
 
 use reference::calls::Call;
 
@@ -53,18 +53,18 @@ exports!(extract: cikenuma_extract cikenuma_extract_bound cikenuma_extract_gates
 exports!(encrypt_selector: cikenuma_encrypt_selector cikenuma_encrypt_selector_bound cikenuma_encrypt_selector_gates
     (n g l bit) (key masks errors block));
 exports!(external_product: cikenuma_external_product cikenuma_external_product_bound cikenuma_external_product_gates
-    (n g l amplitude sample_amplitude) (block sample out));
+    (n g l w amplitude sample_amplitude) (block sample out));
 exports!(cmux: cikenuma_cmux cikenuma_cmux_bound cikenuma_cmux_gates
-    (n g l amplitude amplitude0 amplitude1) (block sample0 sample1 out));
+    (n g l w amplitude amplitude0 amplitude1) (block sample0 sample1 out));
 exports!(lookup: cikenuma_lookup cikenuma_lookup_bound cikenuma_lookup_gates
-    (n g l m s d) (blocks amplitudes classes sample work));
+    (n g l w m s d) (blocks amplitudes classes sample work));
 exports!(lookup_vertical: cikenuma_lookup_vertical cikenuma_lookup_vertical_bound cikenuma_lookup_vertical_gates
-    (n g l m s d) (blocks amplitudes classes sample work));
+    (n g l w m s d) (blocks amplitudes classes sample work));
 exports!(lookup_hidden: cikenuma_lookup_hidden cikenuma_lookup_hidden_bound cikenuma_lookup_hidden_gates
-    (n g l m s d) (blocks amplitudes samples sample_amplitudes sample work));
+    (n g l w m s d) (blocks amplitudes samples sample_amplitudes sample work));
 exports!(lookup_hidden_vertical:
     cikenuma_lookup_hidden_vertical cikenuma_lookup_hidden_vertical_bound cikenuma_lookup_hidden_vertical_gates
-    (n g l m s d) (blocks amplitudes samples sample_amplitudes sample work));
+    (n g l w m s d) (blocks amplitudes samples sample_amplitudes sample work));
 
 /// # Safety
 /// Every slice can be read and written over its whole length, and none overlaps another.

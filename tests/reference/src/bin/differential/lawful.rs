@@ -6,7 +6,6 @@ use crate::parameters::{Effort, Parameters};
 use crate::random::Random;
 use reference::calls::{bytes_of, words_of, Call, Number, Slice};
 use reference::classes::Classes;
-use reference::gadget::Gadget;
 use reference::lwe::Scalar;
 use reference::polynomial::{sum, zero};
 use reference::torus::{word, HALF_TURN, TURN};
@@ -24,7 +23,7 @@ pub fn arguments(call: Call, effort: Effort, random: &mut Random) -> Arguments {
     let mut slices: Vec<Vec<i64>> = Vec::new();
     for (&role, &length) in signature.slices.iter().zip(&lengths) {
         slices.push(match role {
-            Slice::Key => key(length as usize, random),
+            Slice::Key => key(length as usize, parameters.weight, random),
             Slice::Errors => noise::errors(call, &parameters, plan, length as usize, random),
             Slice::Amplitudes => noise::amplitudes(call, &parameters, plan, random),
             Slice::SampleAmplitudes => {
@@ -48,6 +47,7 @@ fn number(role: Number, parameters: &Parameters, random: &mut Random) -> u64 {
         Number::Degree => degree,
         Number::BaseLog => parameters.base_log,
         Number::Digits => parameters.digits,
+        Number::Weight => parameters.weight,
         Number::ClassCount => parameters.class_count,
         Number::Carried => parameters.carried,
         Number::Depth => parameters.depth,
@@ -57,16 +57,16 @@ fn number(role: Number, parameters: &Parameters, random: &mut Random) -> u64 {
     }
 }
 
-/// A key of only 0, only 1, few ones, or as many of either.
-pub fn key(degree: usize, random: &mut Random) -> Vec<i64> {
-    let kind = random.below(5);
-    let bit = |random: &mut Random| match kind {
-        0 => false,
-        1 => true,
-        2 => random.one_in(8),
-        _ => random.one_in(2),
-    };
-    (0..degree).map(|_| bit(random).into()).collect()
+/// A key of at most this weight, often of just this one. Its ones stand side by side, or anywhere.
+pub fn key(degree: usize, weight: u64, random: &mut Random) -> Vec<i64> {
+    let fewer = random.below(weight + 1);
+    let ones = random.pick(&[weight, weight, 0, weight.min(1), fewer]) as usize;
+    let mut key = [vec![1; ones], vec![0; degree - ones]].concat();
+    key.rotate_right(random.below(degree as u64) as usize);
+    if !random.one_in(4) {
+        random.shuffle(&mut key);
+    }
+    key
 }
 
 pub fn class_list(count: usize, class_count: u64, random: &mut Random) -> Vec<i64> {
@@ -95,7 +95,7 @@ fn words(count: usize, parameters: &Parameters, random: &mut Random) -> Vec<i64>
 }
 
 fn last_step(parameters: &Parameters) -> i64 {
-    Gadget::new(parameters.base_log, parameters.digits).step(parameters.digits as usize)
+    parameters.gadget().step(parameters.digits as usize)
 }
 
 fn band(parameters: &Parameters) -> i64 {

@@ -4,9 +4,7 @@ use crate::parameters::{Effort, Parameters};
 use crate::random::Random;
 use reference::calls::Call;
 use reference::classes::Classes;
-use reference::gadget::Gadget;
 use reference::torus::{word, HALF_TURN};
-use reference::trgsw::charge;
 
 /// Where the bound of a call that has a limit is to lie.
 #[derive(Clone, Copy, Debug, PartialEq, Eq)]
@@ -22,17 +20,17 @@ impl Plan {
     }
 }
 
-/// N, d and M of lookups whose bound can be one below the limit. That takes a rounding remainder of at
+/// N, W, d and M of lookups whose bound can be one below the limit. That takes a rounding remainder of at
 /// most 1, so g = 1 and L = 31.
-const ONE_BELOW: [(u64, u64, u64); 3] = [(2, 1, 16), (2, 5, 4), (4, 3, 128)];
+const ONE_BELOW: [(u64, u64, u64, u64); 4] = [(2, 2, 1, 16), (2, 2, 5, 4), (4, 4, 3, 128), (1, 0, 3, 16)];
 
 /// Parameters under which the plan can be kept: rounding alone can pass a lookup's limit. Without
 /// selectors every gadget can be used.
 pub fn parameters(call: Call, effort: Effort, plan: Plan, random: &mut Random) -> Parameters {
     let looks_up = call.packing().is_some();
     if looks_up && plan == Plan::Below && !effort.stays_lawful() && random.one_in(16) {
-        let (degree, depth, class_count) = random.pick(&ONE_BELOW);
-        return Parameters { degree, base_log: 1, digits: 31, class_count, carried: 1, depth };
+        let (degree, weight, depth, class_count) = random.pick(&ONE_BELOW);
+        return Parameters { degree, base_log: 1, digits: 31, weight, class_count, carried: 1, depth };
     }
     loop {
         let drawn = Parameters::draw(call, effort, random);
@@ -116,18 +114,13 @@ pub fn sample_amplitudes(
 /// The greatest amplitude of a sample that is accepted beside these of the selectors, below 0 if there is none.
 fn room(parameters: &Parameters, selectors: &[i64]) -> i64 {
     let limit = i128::from(Classes::new(parameters.class_count).limit());
-    let charges: i128 = selectors.iter().map(|&amplitude| charge_of(parameters, amplitude)).sum();
+    let charges: i128 = selectors.iter().map(|&amplitude| parameters.scheme().charge(amplitude)).sum();
     (limit - 1 - charges) as i64
-}
-
-fn charge_of(parameters: &Parameters, amplitude: i64) -> i128 {
-    let gadget = Gadget::new(parameters.base_log, parameters.digits);
-    charge(gadget, parameters.degree as usize, amplitude)
 }
 
 /// The greatest sum of the amplitudes under which a lookup is accepted, below 0 if there is none.
 pub fn spare_amplitude(parameters: &Parameters) -> i64 {
-    let unit = charge_of(parameters, 1) - charge_of(parameters, 0);
+    let unit = parameters.scheme().charge(1) - parameters.scheme().charge(0);
     room(parameters, &vec![0; parameters.depth as usize]).div_euclid(unit as i64)
 }
 

@@ -2,14 +2,16 @@
 
 use crate::random::Random;
 use reference::calls::Call;
-use reference::gadget::all_gadgets;
+use reference::gadget::{all_gadgets, Gadget};
 use reference::lookup::Packing;
+use reference::trgsw::Scheme;
 
 #[derive(Clone, Copy, Debug)]
 pub struct Parameters {
     pub degree: u64,
     pub base_log: u64,
     pub digits: u64,
+    pub weight: u64,
     pub class_count: u64,
     pub carried: u64,
     pub depth: u64,
@@ -68,11 +70,26 @@ impl Parameters {
             degree,
             base_log,
             digits,
+            weight: weight(degree, random),
             class_count: 2 << random.below(16),
             carried: random.pick(&[1, most_carried, carried]),
             depth,
         }
     }
+
+    pub fn gadget(&self) -> Gadget {
+        Gadget::new(self.base_log, self.digits)
+    }
+
+    pub fn scheme(&self) -> Scheme {
+        Scheme { degree: self.degree, gadget: self.gadget(), weight: self.weight }
+    }
+}
+
+/// A lawful weight: often that of any key, or a small one.
+pub fn weight(degree: u64, random: &mut Random) -> u64 {
+    let (any, small) = (random.below(degree + 1), random.up_to(degree));
+    random.pick(&[degree, degree, degree - 1, degree / 2, 0, 1, any, small])
 }
 
 fn affordable_degree(call: Call, digits: u64, effort: Effort, random: &mut Random) -> u64 {

@@ -1,7 +1,7 @@
 //! Counts of what was reached, and what was not.
 
 use crate::arguments::Arguments;
-use reference::calls::{Call, Number, Outcome, Signature, CALLS};
+use reference::calls::{Call, Number, Outcome, Signature, CALLS, ORDER};
 use reference::classes::Classes;
 use reference::gadget::all_gadgets;
 use reference::lookup::Packing;
@@ -14,6 +14,7 @@ pub struct Tally {
     degrees: BTreeMap<(Call, u64), u64>,
     gadgets: BTreeSet<(Call, u64, u64)>,
     depths: BTreeMap<(Call, u64), u64>,
+    weights: BTreeSet<(Call, &'static str)>,
     edges: BTreeSet<(Call, bool, i64)>,
 }
 
@@ -42,8 +43,11 @@ impl Tally {
             let beyond = outcome.bound as i64 - limit;
             EDGES.contains(&beyond).then(|| self.edges.insert((call, selects, beyond)));
         }
+        let number = |role| arguments.number(role);
+        if [0, 12].contains(&outcome.number) && takes_weight(call) {
+            self.weights.insert((call, named_weight(number(Number::Weight), number(Number::Degree))));
+        }
         if outcome.number == 0 {
-            let number = |role| arguments.number(role);
             *self.degrees.entry((call, number(Number::Degree))).or_default() += 1;
             self.gadgets.insert((call, number(Number::BaseLog), number(Number::Digits)));
             *self.depths.entry((call, number(Number::Depth))).or_default() += 1;
@@ -53,12 +57,13 @@ impl Tally {
     pub fn print(&self) {
         println!("{} argument sets, {} calls of exports", self.sets, 3 * self.sets);
         println!("\n{:<23}returned number, and how often", "call");
-        print_row("", (0..=9).map(|number| number.to_string()));
+        let numbers = || [0].into_iter().chain(ORDER);
+        print_row("", numbers().map(|number| number.to_string()));
         for call in CALLS {
             let possible = |number: u32| number == 0 || call.signature().refusals.contains(&number);
             let times = |number| self.answers.get(&(call, number)).copied();
             let cell = |number| times(number).map_or(if possible(number) { "0" } else { "-" }.into(), text);
-            print_row(call.signature().name, (0..=9).map(cell));
+            print_row(call.signature().name, numbers().map(cell));
         }
         println!("\n{:<23}accepted, by N", "call");
         print_row("", degrees().map(text));
@@ -95,6 +100,8 @@ impl Tally {
         missing.extend(absent.map(|degree| format!("{name}: accepted with N = {degree}")));
         let absent = depths(call).filter(|&depth| !self.depths.contains_key(&(call, depth)));
         missing.extend(absent.map(|depth| format!("{name}: accepted with d = {depth}")));
+        let absent = WEIGHTS.iter().filter(|&&weight| !self.weights.contains(&(call, weight)));
+        missing.extend(absent.filter(|_| takes_weight(call)).map(|weight| format!("{name}: W {weight}")));
         if numbers.contains(&Number::BaseLog) {
             let gadgets = all_gadgets().into_iter();
             let absent = gadgets.filter(|&(g, l)| !self.gadgets.contains(&(call, g, l)));
@@ -102,6 +109,24 @@ impl Tally {
         }
         missing
     }
+}
+
+/// Where a weight that is judged stands beside the degree.
+const WEIGHTS: [&str; 5] = ["= 0", "between 0 and N", "= N", "= N + 1", "above N + 1"];
+
+fn named_weight(weight: u64, degree: u64) -> &'static str {
+    let place = match weight {
+        0 => 0,
+        _ if weight < degree => 1,
+        _ if weight == degree => 2,
+        _ if weight == degree + 1 => 3,
+        _ => 4,
+    };
+    WEIGHTS[place]
+}
+
+fn takes_weight(call: Call) -> bool {
+    call.signature().numbers.contains(&Number::Weight)
 }
 
 fn degrees() -> impl Iterator<Item = u64> {

@@ -76,7 +76,7 @@ impl Target {
         self.errors(signs, amplitude, &one, random)
     }
 
-    /// A sample whose digits are all -2^(g-1), and whose remainders add up under a key of ones.
+    /// A sample whose digits are all -2^(g-1), and whose remainders add up under the ones of every key.
     pub fn extreme_sample(&self, gadget: Gadget, degree: usize) -> Sample {
         let lowest: i64 = (1..=gadget.digits()).map(|j| -gadget.greatest_digit() * gadget.step(j)).sum();
         let greatest = gadget.greatest_remainder();

@@ -6,10 +6,8 @@ use crate::parameters::{Effort, Parameters};
 use crate::random::Random;
 use crate::{lawful, library};
 use reference::calls::Call;
-use reference::gadget::Gadget;
 use reference::polynomial::{difference, zero};
 use reference::torus::HALF_TURN;
-use reference::trgsw::charge;
 use reference::trlwe::Sample;
 
 struct Gate {
@@ -30,10 +28,11 @@ impl Gate {
         let degree = parameters.degree as usize;
         let target = Target::draw(degree, random);
         let extreme = random.one_in(2);
-        let (key, multiplied) = if extreme {
-            (vec![1; degree], target.extreme_sample(gadget_of(&parameters), degree))
+        let key = lawful::key(degree, parameters.weight, random);
+        let multiplied = if extreme {
+            target.extreme_sample(parameters.gadget(), degree)
         } else {
-            (lawful::key(degree, random), Sample::from_words(&random_words(2 * degree, random)))
+            Sample::from_words(&random_words(2 * degree, random))
         };
         let within = random_up_to(spare, random);
         let amplitude = if kind == Kind::Rounding { 0 } else { random.pick(&[spare, within]) };
@@ -44,7 +43,7 @@ impl Gate {
 
     fn block(&self, random: &mut Random) -> Result<Vec<i64>, String> {
         let Parameters { degree, base_log, digits, .. } = self.parameters;
-        let digit_polynomials = digits_of(gadget_of(&self.parameters), &self.multiplied);
+        let digit_polynomials = digits_of(self.parameters.gadget(), &self.multiplied);
         let row = |digits: &Vec<i64>| self.target.errors(self.signs, self.amplitude, digits, random);
         let errors: Vec<Vec<i64>> = digit_polynomials.iter().map(row).collect();
         block(&[degree, base_log, digits, self.bit], &self.key, &errors, self.amplitude, random)
@@ -82,8 +81,8 @@ impl Gate {
         slices: &[Vec<i64>],
         exact: &[i64],
     ) -> Result<Measured, String> {
-        let Parameters { degree, base_log, digits, .. } = self.parameters;
-        let mut numbers = vec![degree, base_log, digits, self.amplitude as u64];
+        let Parameters { degree, base_log, digits, weight, .. } = self.parameters;
+        let mut numbers = vec![degree, base_log, digits, weight, self.amplitude as u64];
         numbers.extend(amplitudes.iter().map(|&amplitude| amplitude as u64));
         let made = library::call(call, &numbers, slices)?;
         let phase = Sample::from_words(&made.written[0]).phase(&self.key);
@@ -101,10 +100,6 @@ pub fn run(kind: Kind, effort: Effort, random: &mut Random) -> Result<Measured, 
     }
 }
 
-fn gadget_of(parameters: &Parameters) -> Gadget {
-    Gadget::new(parameters.base_log, parameters.digits)
-}
-
 fn random_up_to(most: i64, random: &mut Random) -> i64 {
     random.up_to(most as u64) as i64
 }
@@ -114,9 +109,9 @@ fn random_up_to(most: i64, random: &mut Random) -> i64 {
 fn meaningful_parameters(mut effort: Effort, random: &mut Random) -> (Parameters, i64) {
     loop {
         let parameters = Parameters::draw(Call::Cmux, effort, random);
-        let charge_of = |amplitude| charge(gadget_of(&parameters), parameters.degree as usize, amplitude);
-        let spare = i128::from(HALF_TURN - (1 << 24)) - charge_of(0);
-        let amplitude = spare.div_euclid(charge_of(1) - charge_of(0)) as i64;
+        let [rounding, one] = [0, 1].map(|amplitude| parameters.scheme().charge(amplitude));
+        let spare = i128::from(HALF_TURN - (1 << 24)) - rounding;
+        let amplitude = spare.div_euclid(one - rounding) as i64;
         if amplitude >= 0 {
             return (parameters, amplitude);
         }

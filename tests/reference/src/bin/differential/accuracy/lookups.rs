@@ -8,7 +8,6 @@ use crate::random::Random;
 use crate::{lawful, library};
 use reference::calls::Call;
 use reference::classes::Classes;
-use reference::gadget::Gadget;
 use reference::lookup::Packing;
 use reference::polynomial::{difference, rotated, zero};
 use reference::trlwe::Sample;
@@ -37,7 +36,7 @@ impl Job {
             call,
             parameters,
             rotating: packing.rotating(parameters.degree, parameters.depth) as usize,
-            key: lawful::key(degree, random),
+            key: lawful::key(degree, parameters.weight, random),
             table: lawful::class_list(count, parameters.class_count, random),
             entry: random.below(1 << parameters.depth) as usize,
             amplitudes: noise::amplitudes(call, &parameters, Plan::Below, random),
@@ -99,8 +98,8 @@ impl Job {
 
     /// The sample and the bound of a lookup with these blocks in a table.
     fn look_up(&self, blocks: &[Vec<i64>], table: &[Vec<i64>]) -> Result<(Sample, i64), String> {
-        let Parameters { degree, base_log, digits, class_count, carried, depth } = self.parameters;
-        let numbers = [degree, base_log, digits, class_count, carried, depth];
+        let Parameters { degree, base_log, digits, weight, class_count, carried, depth } = self.parameters;
+        let numbers = [degree, base_log, digits, weight, class_count, carried, depth];
         let read = [&[blocks.concat(), self.amplitudes.clone()], table].concat();
         let made = library::call(self.call, &numbers, &read)?;
         Ok((Sample::from_words(&made.written[0]), made.bound))
@@ -114,7 +113,7 @@ impl Job {
         blocks: &[Vec<i64>],
         table: &[Vec<i64>],
     ) -> Result<Vec<Vec<i64>>, String> {
-        let gadget = Gadget::new(self.parameters.base_log, self.parameters.digits);
+        let gadget = self.parameters.gadget();
         let mut blocks = blocks.to_vec();
         blocks[last].fill(0);
         let (first, _) = self.look_up(&blocks, table)?;

@@ -3,6 +3,7 @@
 use super::fillings::FILLINGS;
 use super::with_written;
 use crate::arguments::Arguments;
+use crate::parameters::weight;
 use crate::random::Random;
 use reference::calls::Call;
 use std::ops::Range;
@@ -85,7 +86,8 @@ impl Case {
     pub fn arguments(&self, random: &mut Random) -> Arguments {
         let (base_log, digits) = self.gadget;
         let depth = self.depth as usize;
-        let numbers = vec![DEGREE, base_log, digits, self.class_count, self.carried, self.depth];
+        let weight = weight(DEGREE, random);
+        let numbers = vec![DEGREE, base_log, digits, weight, self.class_count, self.carried, self.depth];
         let blocks = self.filled(0..depth, 4 * (digits * DEGREE) as usize, random);
         let mut slices = vec![blocks, vec![self.amplitude; depth]];
         if self.call.hides() {

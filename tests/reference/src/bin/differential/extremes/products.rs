@@ -3,6 +3,7 @@
 use super::fillings::{spread, Filling, FILLINGS};
 use super::with_written;
 use crate::arguments::Arguments;
+use crate::parameters::weight;
 use crate::random::Random;
 use reference::calls::Call;
 use reference::gadget::Gadget;
@@ -95,7 +96,8 @@ impl Case {
         let block = self.block.words(4 * digits as usize * degree, random);
         let difference = self.sample.words(degree, Gadget::new(base_log, digits), random);
         let amplitude = HALF_TURN as u64;
-        let mut numbers = vec![self.degree, base_log, digits, amplitude, amplitude];
+        let weight = weight(self.degree, random);
+        let mut numbers = vec![self.degree, base_log, digits, weight, amplitude, amplitude];
         if self.call == Call::ExternalProduct {
             return with_written(self.call, numbers, vec![block, difference], random);
         }
