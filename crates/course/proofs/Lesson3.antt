@@ -120,12 +120,11 @@ two_in_a_row p m A B C K block other x₀ x₁ x₂ f₀ f₁ f₂ given none wo
     picked_word (suc zero) lm i l = w₁ i l
     picked_word (suc (suc m)) lm i l = absurd (omega arith)
 
--- Exercise 3.7. A key with fewer ones is charged no more. With N = 1,024, g = 8, L = 2 and amplitude 1, compute the charge for keys of up to 64
--- ones.
+-- Exercise 3.7. With N = 1,024, g = 8, L = 2 and amplitude 1, compute the charge for keys of up to 64 ones. Each one more costs E.
 pub charge_thin : charge (record (one 1024 8 2) { W = 64 }) 1 ≡ 2654208
 unfolding charge precision
 charge_thin = refl
 
-pub charge_fewer : (p : Parameters) (W A : ℕ) → W ≤ p.W → charge (record p { W = W }) A ≤ charge p A
+pub charge_each : (p : Parameters) (W A : ℕ) → charge (record p { W = suc W }) A ≡ charge (record p { W = W }) A + precision p.g p.L
 unfolding charge
-charge_fewer p W A h = let fewer : 1 + W ≤ 1 + p.W = omega (arith, h) in omega (arith, mul-le-mul fewer (le_refl (precision p.g p.L)))
+charge_each p W A = omega arith

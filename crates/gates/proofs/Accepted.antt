@@ -22,6 +22,13 @@ use Rattle.trgsw.proofs.Checked.{scheme_held, scheme_met, heavy_refused, twelve_
 use Rattle.gates.specs.Calls.{ProductInput, external_product, CMuxInput, cmux}
 use Rattle.gates.specs.Inner.{product_lengths, product_amplitudes, cmux_lengths, cmux_amplitudes}
 
+-- Lengths and amplitudes give no number above 9.
+five : (bytes words : ℕ) → number (Check.exact bytes words) ≤ 9
+five bytes words = check_most (eqb bytes (4 * words)) Refused.Length 9 (omega arith)
+
+six : (A : ℕ) → number (Check.amplitude A) ≤ 9
+six A = check_most (leb A (2 ^ 31)) Refused.Amplitude 9 (omega arith)
+
 -- ---- the external product
 
 pub record Multipliable (c : ProductInput) : Type 0 where
@@ -75,8 +82,6 @@ module _ (c : ProductInput) where
   pub external_twelve : number (external_product c) ≡ 12 → (Degree c.scheme.N × Lawful c.scheme.g c.scheme.L) × (c.scheme.N < c.scheme.W)
   unfolding external_product
   external_twelve =
-      let five : (bytes words : ℕ) → number (Check.exact bytes words) ≤ 9 = λ bytes words. check_most (eqb bytes (4 * words)) Refused.Length 9 (omega arith) in
-      let six : (A : ℕ) → number (Check.amplitude A) ≤ 9 = λ A. check_most (leb A (2 ^ 31)) Refused.Amplitude 9 (omega arith) in
       let made : number {T = Ledger} (Ok (record { bound = charge product_set c.amplitude + c.sample_amplitude; gates = 0 })) ≤ 9 = omega arith in
       twelve_held c.scheme _
       (first_most _ _ 9 (five (length c.block) _) (first_most _ _ 9 (five (length c.sample) _) (first_most _ _ 9 (five (length c.out) _)
@@ -141,8 +146,6 @@ module _ (c : CMuxInput) where
   pub cmux_twelve : number (cmux c) ≡ 12 → (Degree c.scheme.N × Lawful c.scheme.g c.scheme.L) × (c.scheme.N < c.scheme.W)
   unfolding cmux
   cmux_twelve =
-      let five : (bytes words : ℕ) → number (Check.exact bytes words) ≤ 9 = λ bytes words. check_most (eqb bytes (4 * words)) Refused.Length 9 (omega arith) in
-      let six : (A : ℕ) → number (Check.amplitude A) ≤ 9 = λ A. check_most (leb A (2 ^ 31)) Refused.Amplitude 9 (omega arith) in
       let made : number {T = Ledger} (Ok (record { bound = max c.amplitude₀ c.amplitude₁ + charge cmux_set c.amplitude; gates = 1 })) ≤ 9 = omega arith in
       twelve_held c.scheme _
       (first_most _ _ 9 (five (length c.block) _) (first_most _ _ 9 (five (length c.sample₀) _) (first_most _ _ 9 (five (length c.sample₁) _)

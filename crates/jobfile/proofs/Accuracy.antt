@@ -20,10 +20,8 @@ use Rattle.tables.specs.declared.Packing.TheVariants.{Horizontal, Vertical}
 use Rattle.tables.specs.declared.Visibility.TheVariants.{Public}
 use Rattle.trlwe.specs.Sample.{Key}
 use Rattle.trgsw.specs.Parameters.{masks, SchemeKey, unweighted_refusal}
-use Rattle.trgsw.proofs.Checked.{unweighted_told}
+use Rattle.trgsw.proofs.Checked.{unweighted_most, unweighted_told}
 use Rattle.trgsw.proofs.Told.{every_key}
-use Rattle.gadget.specs.Digits.{is_lawful}
-use Rattle.ring.specs.Polynomial.{is_degree}
 use Rattle.answers.proofs.Laws.{check_most, first_most, past_other}
 use Rattle.tables.proofs.Passed.{sizes, sizes_most}
 use Rattle.lookup.proofs.Accepted.{lookup_twelve}
@@ -110,10 +108,9 @@ file_most : (file : List ℕ) → number (file_refusal file) ≤ 5
 unfolding file_refusal
 file_most file =
     let x = (read_job file).numbers in
-    let first : number (unweighted_refusal x.scheme.N x.scheme.g x.scheme.L) ≤ 5 =
-    first_most _ _ 5 (check_most (is_degree x.scheme.N) Refused.Degree 5 (omega arith)) (check_most (is_lawful x.scheme.g x.scheme.L) Refused.Gadget 5 (omega arith)) in
     let judged : number (numbers x) ≤ 5 =
-    rw (sym (file_judged file)) (first_most _ (sizes x) 5 first (omega (arith, sizes_most x))) in
+    rw (sym (file_judged file))
+    (first_most (unweighted_refusal x.scheme.N x.scheme.g x.scheme.L) (sizes x) 5 (omega (arith, unweighted_most x.scheme.N x.scheme.g x.scheme.L)) (omega (arith, sizes_most x))) in
     let five : (t : Bool) → number (Check.unless t Refused.Length) ≤ 5 = λ t. check_most t Refused.Length 5 (omega arith) in
     first_most (beginning file) _ 5 (five _)
     (first_most (numbers x) (sections x file) 5 judged (first_most (Check.exact (length file) _) (table_count x file) 5 (five _) (five _)))

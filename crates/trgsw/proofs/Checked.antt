@@ -10,7 +10,7 @@ use Rattle.answers.specs.Checks as Check
 use Rattle.answers.specs.Answers.{number}
 use Rattle.answers.specs.declared.Refusal.{Refusal}
 use Rattle.answers.specs.declared.Refusal.TheVariants as Refused
-use Rattle.answers.proofs.Laws.{or_else_assoc, went_on, past_other, both_passed, both_pass, check_other, first_other, degree_held, degree_met, gadget_held, gadget_met, weight_held, weight_met, amplitude_held}
+use Rattle.answers.proofs.Laws.{or_else_assoc, went_on, past_other, both_passed, both_pass, check_most, first_most, check_other, first_other, degree_held, degree_met, gadget_held, gadget_met, weight_held, weight_met, amplitude_held}
 use Rattle.trgsw.specs.declared.Scheme.{Scheme}
 use Rattle.trgsw.specs.Parameters.{LawfulScheme, scheme_of, unweighted_refusal, scheme_refusal}
 
@@ -24,12 +24,15 @@ scheme_held x e =
 pub scheme_met : (x : Scheme) → LawfulScheme x → scheme_refusal x ≡ passed
 scheme_met x ok = both_pass _ _ (both_pass _ _ (degree_met x.N ok.degree) (gadget_met x.g x.L ok.gadget)) (weight_met x.N x.W ok.weight)
 
--- These checks give no other number than theirs.
+-- These checks give no other number than theirs: 1 and 2 without a weight,
+pub unweighted_most : (N g L : ℕ) → number (unweighted_refusal N g L) ≤ 2
+unweighted_most N g L =
+    first_most _ _ 2 (check_most (is_degree N) Refused.Degree 2 (omega arith)) (check_most (is_lawful g L) Refused.Gadget 2 (omega arith))
+
+-- and never 9.
 pub scheme_other : (x : Scheme) → number (scheme_refusal x) ≡ 9 → ⊥
 scheme_other x =
-    first_other (unweighted_refusal x.N x.g x.L) _ 9
-    (first_other (Check.degree x.N) _ 9 (check_other (is_degree x.N) Refused.Degree 9 (omega arith) (λ e. omega arith))
-    (check_other (is_lawful x.g x.L) Refused.Gadget 9 (omega arith) (λ e. omega arith)))
+    first_other (unweighted_refusal x.N x.g x.L) (Check.weight x.N x.W) 9 (λ e. omega (arith, unweighted_most x.N x.g x.L, e))
     (check_other (leb x.W x.N) Refused.Weight 9 (omega arith) (λ e. omega arith))
 
 -- A call that is told no weight has the refusals of one that is told W = N: this weight passes.
@@ -55,10 +58,7 @@ heavy_of false rest most e = refl
 pub twelve_held : {T : Type 0} (x : Scheme) (rest : Result T Refusal) → number rest ≤ 9 → number (scheme_refusal x or_else rest) ≡ 12
     → (Degree x.N × Lawful x.g x.L) × (x.N < x.W)
 twelve_held x rest most e =
-    let other = first_other (Check.degree x.N) (Check.gadget x.g x.L) 12
-    (check_other (is_degree x.N) Refused.Degree 12 (omega arith) (λ n. omega arith))
-    (check_other (is_lawful x.g x.L) Refused.Gadget 12 (omega arith) (λ n. omega arith)) in
-    let weighed = past_other (unweighted_refusal x.N x.g x.L) 12 (Check.weight x.N x.W or_else rest) other
+    let weighed = past_other (unweighted_refusal x.N x.g x.L) 12 (Check.weight x.N x.W or_else rest) (λ n. omega (arith, unweighted_most x.N x.g x.L, n))
     (ap number (sym (or_else_assoc (unweighted_refusal x.N x.g x.L) (Check.weight x.N x.W) rest)) ∙ e) in
     let held = both_passed (Check.degree x.N) (Check.gadget x.g x.L) weighed.0 in
     ((degree_held x.N held.0, gadget_held x.g x.L held.1), leb-false x.W x.N (heavy_of (leb x.W x.N) rest most weighed.1))
