@@ -3,8 +3,8 @@
 
 Writes the input and the expected output of the program crates/vectors:
     python3 tests/foundation_vectors.py
-Digits go by carries from the last digit up, products by exact integers and one reduction
-modulo X^N + 1, where the library adds one offset and sums rows modulo 2^32.
+Digits go by signed integers, products by exact integers and one reduction modulo X^N + 1,
+where the library has words modulo 2^32, shifts and masks, and sums rows modulo 2^32.
 
 Input, words of four bytes, lowest first: a count, then g, L and a word each; a count, then
 N, g, L, j and the N words of each of x, row and out. Output: the digits of each word, and

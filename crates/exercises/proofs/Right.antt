@@ -2,7 +2,8 @@
 use mathlib.Core.Path.{◌≡◌, refl}
 use mathlib.Core.List.{List, [], ◌∷◌, map, Memᴰ}
 use Rattle.torus.specs.Sum.{sum, tabulate}
-use Rattle.gadget.specs.Digits.{precision, rounded, digit, digits}
+use Rattle.gadget.specs.Digits as Digits
+use Rattle.gadget.specs.Decomposition as Decomposition
 use Rattle.ring.specs.Polynomial.{product}
 use Rattle.trlwe.specs.Classes.{decode}
 use Rattle.lwe.specs.Scalar.{extracted, extracted_word}
@@ -19,7 +20,7 @@ each (d ∷ ds) t c (Memᴰ.head e) = cc
 each (d ∷ ds) t c (Memᴰ.tail m) = each ds (cc) c m
 
 computed : Test cases
-unfolding cases sum tabulate digits digit rounded precision product decode extracted extracted_word
+unfolding cases sum tabulate Digits.digits Digits.digit Digits.rounded Digits.precision Decomposition.digits Decomposition.digit Decomposition.closest_multiple Decomposition.left_after Decomposition.left_over Decomposition.centred_remainder Decomposition.carry product decode extracted extracted_word
 computed = refl
 
 pub exercises : (c : Case) → Memᴰ c cases → c.got ≡ c.want

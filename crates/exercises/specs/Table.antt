@@ -4,7 +4,8 @@
 use Rattle.std.specs.Prelude.{List, [], ◌∷◌, ◌++◌, ℕ}
 use Rattle.torus.specs.Sum.{tabulate}
 use Rattle.torus.specs.Word.{sub}
-use Rattle.gadget.specs.Digits.{digits}
+use Rattle.gadget.specs.Digits as Digits
+use Rattle.gadget.specs.Decomposition as Decomposition
 use Rattle.ring.specs.Polynomial.{product, coefficients}
 use Rattle.trlwe.specs.Classes.{decode}
 use Rattle.lwe.specs.Scalar.{extracted}
@@ -26,9 +27,9 @@ minus n = sub 0 n
 abbrev pub sample : List ℕ
 sample = 5 ∷ 7 ∷ 9 ∷ 11 ∷ []
 
--- The rows, in the document's order. Of a to g it says: "With g = 8, L = 2, digits are".
-unfoldable pub cases : List Case
-cases =
+-- Cases a to g, of a definition of the digits: "With g = 8, L = 2, digits are".
+abbrev pub decompositions : ((g L w : ℕ) → List ℕ) → List Case
+decompositions digits =
     -- a
     (digits 8 2 0 gives 0 ∷ 0 ∷ [])
     -- b
@@ -43,8 +44,15 @@ cases =
     ∷ (digits 8 2 4294934528 gives 0 ∷ 0 ∷ [])
     -- g
     ∷ (digits 8 2 2147483648 gives minus 128 ∷ 0 ∷ [])
+    ∷ []
+
+-- The rows, in the document's order: a to g of its own digits and of those in the order of the thesis, then h to l.
+unfoldable pub cases : List Case
+cases =
+    decompositions Digits.digits
+    ++ decompositions Decomposition.digits
     -- h: "N = 2: (1 + 2X)·X has words 4294967294, 1."
-    ∷ (tabulate 2 (product 2 (coefficients (1 ∷ 2 ∷ [])) (coefficients (0 ∷ 1 ∷ []))) gives 4294967294 ∷ 1 ∷ [])
+    ++ (tabulate 2 (product 2 (coefficients (1 ∷ 2 ∷ [])) (coefficients (0 ∷ 1 ∷ []))) gives 4294967294 ∷ 1 ∷ [])
     -- i: "M = 16: phase 134217727 decodes to 0."
     ∷ (decode 16 134217727 ∷ [] gives 0 ∷ [])
     -- j: "M = 16: phase 134217728 decodes to 1."

@@ -36,11 +36,11 @@ halves_le g L ok = go (dec_le g 10)
         let two : L ≤ 2 = omega (arith, mul-le-mul_right L high, ok.room) in
         omega (arith, mul-le-mul two (half_le g ok.high))
 
-half_twice : (g : ℕ) → 1 ≤ g → 2 ^ g ≡ half g + half g
+pub half_twice : (g : ℕ) → 1 ≤ g → 2 ^ g ≡ half g + half g
 half_twice g h = let e : g ≡ suc (g - 1) = omega arith in ap (λ k. 2 ^ k) e ∙ two-pow-succ (g - 1)
 
 -- The balance is a multiple of the last step.
-balance_whole : (g L : ℕ) → g * L ≤ 32 → balance g L ≡ horner g L (λ j. half g) * step g L
+pub balance_whole : (g L : ℕ) → g * L ≤ 32 → balance g L ≡ horner g L (λ j. half g) * step g L
 balance_whole g L r = by_horner g L (λ j. half g) r
 
 -- ---- the sum
@@ -83,7 +83,7 @@ digits_close g L w ok =
 
 -- ---- the range
 
-signed_range : (g p : ℕ) → 1 ≤ g → g ≤ 16 → p < 2 ^ g → InRange g (sub p (half g))
+pub signed_range : (g p : ℕ) → 1 ≤ g → g ≤ 16 → p < 2 ^ g → InRange g (sub p (half g))
 signed_range g p l h b = go (dec_le (half g) p)
   where
     go : Dec (half g ≤ p) → InRange g (sub p (half g))

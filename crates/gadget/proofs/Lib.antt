@@ -3,4 +3,5 @@ pub mod Rounding
 pub mod Places
 pub mod Laws
 pub mod Lists
+pub mod Decomposition
 pub mod Shifts

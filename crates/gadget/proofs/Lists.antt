@@ -8,7 +8,7 @@ use native.Mathlib.Nat.{le_trans, eq-or-lt_of_le}
 use native.Mathlib.Omega.{arith}
 use lib.ListN.{length, get_or, set, replicate, length-append, length-replicate, get_or-replicate, get_or-append}
 use lib.Seq.{ext_get_or, get_or-append-add, get_or-set_same, get_or-set_other}
-use Rattle.torus.specs.Sum.{sum}
+use Rattle.torus.specs.Sum.{sum, tabulate}
 use Rattle.torus.specs.Word.{magnitude}
 use Rattle.torus.proofs.Lists.{length_tabulate, tabulate_at}
 use Rattle.gadget.specs.Digits.{Lawful, InRange, step, rounded, digit, digits, digit_polynomial}
@@ -49,46 +49,50 @@ pub digit_polynomial_small : (N g L j : ℕ) (x : List ℕ) → Lawful g L → (
 digit_polynomial_small N g L j x ok i h =
     rw (digit_polynomial_at N g L j x i h) (le_trans (digit_magnitude g L (get_or x i 0) j ok) (half_le g ok.high))
 
--- ---- the digits, and zeros up to 32
+-- ---- L digits, whichever they are, and zeros up to 32
 
-abbrev pub padded : ℕ → ℕ → ℕ → List ℕ
-padded g L w = digits g L w ++ replicate (32 - L) 0
+abbrev pub padded : ℕ → (ℕ → ℕ) → List ℕ
+padded L d = tabulate L (λ i. d (suc i)) ++ replicate (32 - L) 0
 
-padded_length : (g L w : ℕ) → L ≤ 32 → length (padded g L w) ≡ 32
-padded_length g L w h = omega (arith, length-append (digits g L w) (replicate (32 - L) 0), length_digits g L w, length-replicate {A = ℕ} (32 - L) 0)
+padded_length : (L : ℕ) (d : ℕ → ℕ) → L ≤ 32 → length (padded L d) ≡ 32
+padded_length L d h =
+    let ds = tabulate L (λ i. d (suc i)) in
+    omega (arith, length-append ds (replicate (32 - L) 0), length_tabulate L (λ i. d (suc i)), length-replicate {A = ℕ} (32 - L) 0)
 
-padded_low : (g L w i : ℕ) → i < L → get_or (padded g L w) i 0 ≡ digit g L w (suc i)
-padded_low g L w i h =
-    get_or-append (digits g L w) (replicate (32 - L) 0) 0 i (omega (arith, length_digits g L w)) ∙ digits_at g L w i h
+padded_low : (L : ℕ) (d : ℕ → ℕ) (i : ℕ) → i < L → get_or (padded L d) i 0 ≡ d (suc i)
+padded_low L d i h =
+    get_or-append (tabulate L (λ i. d (suc i))) (replicate (32 - L) 0) 0 i (omega (arith, length_tabulate L (λ i. d (suc i))))
+    ∙ tabulate_at L (λ i. d (suc i)) i h
 
-padded_high : (g L w i : ℕ) → L ≤ i → i < 32 → get_or (padded g L w) i 0 ≡ 0
-padded_high g L w i l u =
-    let e : i ≡ length (digits g L w) + (i - L) = omega (arith, length_digits g L w) in
-    ap (λ k. get_or (padded g L w) k 0) e
-    ∙ get_or-append-add (digits g L w) (replicate (32 - L) 0) (i - L) 0
+padded_high : (L : ℕ) (d : ℕ → ℕ) (i : ℕ) → L ≤ i → i < 32 → get_or (padded L d) i 0 ≡ 0
+padded_high L d i l u =
+    let ds = tabulate L (λ i. d (suc i)) in
+    let e : i ≡ length ds + (i - L) = omega (arith, length_tabulate L (λ i. d (suc i))) in
+    ap (λ k. get_or (padded L d) k 0) e
+    ∙ get_or-append-add ds (replicate (32 - L) 0) (i - L) 0
     ∙ get_or-replicate (32 - L) (i - L) 0 0 (omega arith)
 
 -- out has every digit after the first j, and the zeros.
-abbrev pub Laid : ℕ → ℕ → ℕ → ℕ → List ℕ → Type 0
-Laid g L w j out = (i : ℕ) → j ≤ i → i < 32 → get_or out i 0 ≡ get_or (padded g L w) i 0
+abbrev pub Laid : ℕ → (ℕ → ℕ) → ℕ → List ℕ → Type 0
+Laid L d j out = (i : ℕ) → j ≤ i → i < 32 → get_or out i 0 ≡ get_or (padded L d) i 0
 
-pub laid_none : (g L w : ℕ) → Laid g L w L (replicate 32 0)
-laid_none g L w i l u = get_or-replicate 32 i 0 0 u ∙ sym (padded_high g L w i l u)
+pub laid_none : (L : ℕ) (d : ℕ → ℕ) → Laid L d L (replicate 32 0)
+laid_none L d i l u = get_or-replicate 32 i 0 0 u ∙ sym (padded_high L d i l u)
 
 -- One digit more, before those that are there.
-pub laid_more : (g L w j d : ℕ) (out : List ℕ) → length out ≡ 32 → L ≤ 32 → 1 ≤ j → j ≤ L → d ≡ digit g L w j → Laid g L w j out → Laid g L w (j - 1) (set out (j - 1) d)
-laid_more g L w j d out len h l u e f i a b =
+pub laid_more : (L : ℕ) (d : ℕ → ℕ) (j x : ℕ) (out : List ℕ) → length out ≡ 32 → L ≤ 32 → 1 ≤ j → j ≤ L → x ≡ d j → Laid L d j out → Laid L d (j - 1) (set out (j - 1) x)
+laid_more L d j x out len h l u e f i a b =
     ⊎_elim
-    (λ x.
+    (λ here.
     let last : suc (j - 1) ≡ j = omega arith in
-    ap (λ k. get_or (set out (j - 1) d) k 0) (sym x)
-    ∙ get_or-set_same out (j - 1) d 0 (omega arith)
+    ap (λ k. get_or (set out (j - 1) x) k 0) (sym here)
+    ∙ get_or-set_same out (j - 1) x 0 (omega arith)
     ∙ e
-    ∙ ap (digit g L w) (sym last)
-    ∙ sym (padded_low g L w (j - 1) (omega arith))
-    ∙ ap (λ k. get_or (padded g L w) k 0) x)
-    (λ x. get_or-set_other out (j - 1) i d 0 (omega arith) ∙ f i (omega arith) b)
+    ∙ ap d (sym last)
+    ∙ sym (padded_low L d (j - 1) (omega arith))
+    ∙ ap (λ k. get_or (padded L d) k 0) here)
+    (λ past. get_or-set_other out (j - 1) i x 0 (omega arith) ∙ f i (omega arith) b)
     (eq-or-lt_of_le a)
 
-pub laid_all : (g L w : ℕ) (out : List ℕ) → length out ≡ 32 → L ≤ 32 → Laid g L w 0 out → out ≡ padded g L w
-laid_all g L w out len h f = ext_get_or 0 out (padded g L w) (len ∙ sym (padded_length g L w h)) (λ i l. f i zero-le (omega arith))
+pub laid_all : (L : ℕ) (d : ℕ → ℕ) (out : List ℕ) → length out ≡ 32 → L ≤ 32 → Laid L d 0 out → out ≡ padded L d
+laid_all L d out len h f = ext_get_or 0 out (padded L d) (len ∙ sym (padded_length L d h)) (λ i l. f i zero-le (omega arith))

@@ -42,7 +42,7 @@ weighted_same g n a b h =
 
 -- ---- Horner's rule
 
-pub horner : ℕ → ℕ → (ℕ → ℕ) → ℕ
+unfoldable pub horner : ℕ → ℕ → (ℕ → ℕ) → ℕ
 horner g zero d = 0
 horner g (suc n) d = horner g n d * 2 ^ g + d (suc n)
 
@@ -99,6 +99,12 @@ places g t (suc n) h =
     ∙ ap (λ x. weighted g n (place g t) + x)
     (sym (mod-mul t (pow_pos g) (pow_pos (32 - g * suc n))) ∙ ap (λ x. t % x) (sym (step_suc g n h)))
     ∙ places g t n (room_before g n h)
+
+-- A shift by g goes to the place before.
+pub shift_place : (g t j : ℕ) → g * suc j ≤ 32 → t / step g (suc j) / 2 ^ g ≡ t / step g j
+shift_place g t j r =
+    let e : 32 - g * suc j + g ≡ 32 - g * j = omega (arith, mul-suc g j) in
+    shr-shr t (32 - g * suc j) g ∙ ap (λ k. t / 2 ^ k) e
 
 -- A carry out of place 1 is dropped.
 pub place_word : (g t j : ℕ) → 1 ≤ j → g * j ≤ 32 → place g (t % 2 ^ 32) j ≡ place g t j

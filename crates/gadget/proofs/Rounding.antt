@@ -1,17 +1,17 @@
 -- The precision E of the decomposition, and rounding to a multiple of the last step, ties up.
 -- Assumes nothing.
-use mathlib.Core.Path.{◌≡◌, ap, ◌∙◌}
+use mathlib.Core.Path.{◌≡◌, sym, ap, ◌∙◌, subst}
 use mathlib.Core.Logic.{◌⊎◌, inl, inr, ⊎_elim}
 use Prim.Native.Nat.{ℕ, suc, ◌+◌, ◌-◌, ◌*◌, ◌/◌, ◌%◌, ◌^◌, ◌≤◌, ◌<◌}
-use native.Mathlib.Nat.{lt_of_not-le, two-pow-succ, div-add-mod', mod-lt, mul-mod_left}
+use native.Mathlib.Nat.{le_refl, lt_of_not-le, two-pow-succ, div-add-mod', mod-lt, mul-mod_left, mul-le-mul_right}
 use native.Mathlib.Decide.{dec_le}
 use native.Mathlib.Omega.{arith}
 use lib.Dec.{lit<}
-use lib.Pow.{pow_pos, pow_mono, mod-mod-pow}
+use lib.Pow.{pow-add, pow_pos, pow_mono, mod-mod-pow}
 use borrow.Author.Tests.{lt-ltb, le-ltb}
 use Rattle.torus.specs.Word.{sub, distance}
 use Rattle.torus.proofs.Near.{Near, near_sym, congruent_trans, near_mod}
-use Rattle.torus.proofs.Magnitudes.{near_distance}
+use Rattle.torus.proofs.Magnitudes.{magnitude_min, near_distance, distance_sym, distance_triangle}
 use Rattle.gadget.specs.Digits.{step, precision, rounded}
 
 -- ---- the precision
@@ -80,6 +80,43 @@ multiple g L q r =
 pub rounded_multiple : (g L w : ℕ) → g * L ≤ 32 → rounded g L w % step g L ≡ 0
 unfolding rounded
 rounded_multiple g L w r = multiple g L _ r
+
+-- Two multiples of S are S apart.
+steps_apart : (S a b : ℕ) → a % S ≡ 0 → b % S ≡ 0 → a < b → a + S ≤ b
+steps_apart S a b ea eb l = go (dec_le (b / S) (a / S))
+  where
+    go : Dec (b / S ≤ a / S) → a + S ≤ b
+    go (yes h) = absurd (omega (arith, mul-le-mul_right S h, div-add-mod' a S, div-add-mod' b S))
+    go (no h) = omega (arith, mul-le-mul_right S (lt_of_not-le h), div-add-mod' a S, div-add-mod' b S)
+
+-- So are they on the circle, if S divides it.
+words_apart : (S a b : ℕ) → 2 ^ 32 % S ≡ 0 → a < 2 ^ 32 → b < 2 ^ 32 → a % S ≡ 0 → b % S ≡ 0 → (a ≡ b) ⊎ (S ≤ distance a b)
+words_apart S a b whole ha hb ea eb = go (dec_le a b) (dec_le b a)
+  where
+    far : (x y : ℕ) → x < y → y < 2 ^ 32 → x % S ≡ 0 → y % S ≡ 0 → S ≤ distance x y
+    far x y l below ex ey =
+        rw (magnitude_min (sub x y)) (omega (arith, steps_apart S x y ex ey l, steps_apart S y (2 ^ 32) ey whole below))
+
+    go : Dec (a ≤ b) → Dec (b ≤ a) → (a ≡ b) ⊎ (S ≤ distance a b)
+    go (yes l) (yes m) = inl (omega arith)
+    go (no l) m = inr (rw (distance_sym a b (omega arith) (omega arith)) (far b a (lt_of_not-le l) ha eb ea))
+    go l (no m) = inr (far a b (lt_of_not-le m) hb ea eb)
+
+-- "round it to the nearest multiple": no other is nearer.
+pub rounded_nearest : (g L w q : ℕ) → g * L ≤ 32 → w < 2 ^ 32 → distance w (rounded g L w) ≤ distance w (q * step g L % 2 ^ 32)
+rounded_nearest g L w q r h =
+    let S : ℕ = step g L in
+    let m : ℕ = q * S % 2 ^ 32 in
+    let n : ℕ = rounded g L w in
+    let e : g * L + (32 - g * L) ≡ 32 = omega arith in
+    let whole : 2 ^ 32 % S ≡ 0 = ap (λ k. 2 ^ k % S) (sym e) ∙ ap (λ x. x % S) (pow-add 2 (g * L) (32 - g * L)) ∙ mul-mod_left (2 ^ (g * L)) S in
+    let below : m < 2 ^ 32 = mod-lt (q * S) (lit< tt) in
+    let word : n < 2 ^ 32 = rounded_word g L w in
+    let turned : distance n w ≡ distance w n = distance_sym n w (omega arith) (omega arith) in
+    let through : distance n m ≤ distance n w + distance w m = distance_triangle n w m (omega arith) (omega arith) in
+    let twice : precision g L + precision g L ≤ S = ⊎_elim (λ c. omega arith) (λ c. omega arith) (precision_twice g L) in
+    ⊎_elim (λ c. subst (λ x. distance w n ≤ distance w x) c (le_refl (distance w n))) (λ c. omega (arith, rounded_near g L w))
+    (words_apart S n m whole word below (rounded_multiple g L w r) (multiple g L q r))
 
 -- With one more to spare, it is less than E below w.
 up : (n S E w : ℕ) → 0 < S → E ≤ 2 ^ 31 → n ≤ w + E → w + S ≤ n + E

@@ -1,18 +1,23 @@
 -- What the code needs: its shifts and masks are the products, quotients and remainders of the definitions.
 -- Assumes nothing.
 use mathlib.Core.Path.{◌≡◌, sym, ap, ◌∙◌}
+use mathlib.Core.Logic.{⊎_elim}
 use Prim.Native.Nat.{ℕ, suc, ◌+◌, ◌-◌, ◌*◌, ◌/◌, ◌%◌, ◌^◌, ◌≤◌, ◌<◌}
-use native.Mathlib.Nat.{mul-suc, mul-le-mul_left, one-mul}
+use native.Mathlib.Nat.{mul-le-mul_left, one-mul, div-add-mod', mod-lt, div-eq_of_lt}
 use native.Mathlib.Numerals.{add-one}
 use native.Mathlib.Omega.{arith}
-use lib.Arith.{digits_lt}
+use lib.Arith.{digits_lt, digits_div}
 use lib.Bits.{bit_and, and_mask}
-use lib.Pow.{pow-add, pow_pos, pow_mono, pow-lt, shl_exact, shr-shr}
+use lib.Pow.{pow-add, pow_pos, pow_mono, pow-lt, shl_exact, mod-mod-pow}
 use Rattle.torus.specs.Sum.{sum}
+use Rattle.torus.specs.Word.{add}
 use Rattle.gadget.specs.Digits.{Lawful, step, precision, half, weighted}
+use Rattle.gadget.specs.Decomposition.{closest_multiple, carry, left_over, left_after}
 use Rattle.gadget.proofs.Bounds.{base_le}
 use Rattle.gadget.proofs.Rounding.{precision_half}
 use Rattle.gadget.proofs.Places.{room_at, horner, by_horner, horner_lt}
+use Rattle.gadget.proofs.Laws.{half_twice}
+use Rattle.gadget.proofs.Decomposition.{closest_half, carry_cases}
 
 -- ---- the offset
 
@@ -61,9 +66,49 @@ module _ (g L n h o : ℕ) (ok : Lawful g L) (l : n < L) (eh : h ≡ half g) (eo
 pub mask_rem : (q g m : ℕ) → m ≡ 2 ^ g - 1 → bit_and q m ≡ q % 2 ^ g
 mask_rem q g m e = ap (λ x. bit_and q x) e ∙ and_mask q g
 
--- A shift by g goes to the place before.
-pub shift_place : (g t j : ℕ) → 1 ≤ j → g * j ≤ 32 → t / step g j / 2 ^ g ≡ t / step g (j - 1)
-shift_place g t j l r =
-    let i : g * j ≡ g * (j - 1) + g = ap (λ k. g * k) (omega arith) ∙ mul-suc g (j - 1) in
-    let e : 32 - g * j + g ≡ 32 - g * (j - 1) = omega arith in
-    shr-shr t (32 - g * j) g ∙ ap (λ k. t / 2 ^ k) e
+-- The carry is the highest bit of the place.
+pub carry_shift : (g n : ℕ) → 1 ≤ g → n % 2 ^ g / half g ≡ carry g n
+carry_shift g n l =
+    ⊎_elim
+    (λ c.
+    let split : n % 2 ^ g ≡ 1 * half g + (n % 2 ^ g - half g) = omega arith in
+    ap (λ x. x / half g) split ∙ digits_div 1 (omega (arith, mod-lt n (pow_pos g), half_twice g l)) ∙ sym c.1)
+    (λ c. div-eq_of_lt c.0 ∙ sym c.1) (carry_cases g n)
+
+carry_le : (g n : ℕ) → carry g n ≤ 1
+carry_le g n = ⊎_elim (λ c. omega arith) (λ c. omega arith) (carry_cases g n)
+
+-- carry << g
+pub carry_shl : (g n : ℕ) → g ≤ 16 → carry g n * 2 ^ g % 2 ^ 32 ≡ carry g n * 2 ^ g
+carry_shl g n u = shl_exact {a = carry g n} 1 g 32 (omega (arith, carry_le g n)) (omega arith)
+
+-- What is left over of a word is a word.
+pub left_over_fits : (g n : ℕ) → 1 ≤ g → n < 2 ^ 32 → left_over g n < 2 ^ 32
+unfolding left_over
+left_over_fits g n l u =
+    let two : 2 ≤ 2 ^ g = pow_mono {i = 1} {j = g} l in
+    omega (arith, mul-le-mul_left (n / 2 ^ g) two, div-add-mod' n (2 ^ g), carry_le g n)
+
+-- ---- the closest multiple
+
+-- Down and up by the bits below the last step. What wraps when half of the step is added does not matter.
+pub closest_shifts : (g L w : ℕ) → g * L ≤ 32 → add w (step g L / 2) / step g L * step g L % 2 ^ 32 ≡ closest_multiple g L w
+closest_shifts g L w r =
+    let S : ℕ = step g L in
+    let n : ℕ = w + S / 2 in
+    let e : 32 ≡ g * L + (32 - g * L) = omega arith in
+    let same : n % 2 ^ 32 % S ≡ n % S = ap (λ k. n % 2 ^ k % S) e ∙ mod-mod-pow n (g * L) (32 - g * L) in
+    let cut : n % 2 ^ 32 / S * S % 2 ^ 32 ≡ n / S * S % 2 ^ 32 =
+    omega (arith, same, div-add-mod' n S, div-add-mod' (n % 2 ^ 32) S, div-add-mod' n (2 ^ 32)) in
+    cut ∙ sym (closest_half g L w)
+
+-- ---- digit after digit
+
+-- Before any digit is taken, all is left; then one is taken more, at place j.
+pub left_none : (g n L : ℕ) → n ≡ left_after g n (L - L)
+unfolding left_after
+left_none g n L = let e : 0 ≡ L - L = omega arith in ap (left_after g n) e
+
+pub left_more : (g n L j : ℕ) → 1 ≤ j → j ≤ L → left_over g (left_after g n (L - j)) ≡ left_after g n (L - (j - 1))
+unfolding left_after
+left_more g n L j l u = let e : suc (L - j) ≡ L - (j - 1) = omega arith in ap (left_after g n) e

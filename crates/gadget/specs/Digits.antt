@@ -29,6 +29,10 @@ precision g L = cond (ltb (g * L) 32) (2 ^ (31 - g * L)) 0
 unfoldable pub rounded : ℕ → ℕ → ℕ → ℕ
 rounded g L w = (w + precision g L) / step g L * step g L % 2 ^ 32
 
+-- "The rounding remainder": the word less what it is rounded to.
+abbrev pub remainder : ℕ → ℕ → ℕ → ℕ
+remainder g L w = sub w (rounded g L w)
+
 -- "the sum of digit_j times h_j", before it is reduced modulo 2^32
 abbrev pub weighted : ℕ → ℕ → (ℕ → ℕ) → ℕ
 weighted g L d = sum L (λ i. d (suc i) * step g (suc i))
@@ -63,6 +67,6 @@ digits g L w = tabulate L (λ i. digit g L w (suc i))
 unfoldable pub digit_polynomial : (N g L j : ℕ) → List ℕ → List ℕ
 digit_polynomial N g L j x = tabulate N (λ i. digit g L (get_or x i 0) j)
 
--- What the code adds to a word in place of rounding it and adding the balance.
+-- What `write_digits` adds to a word in place of rounding it and adding the balance.
 unfoldable pub offset : ℕ → ℕ → ℕ
 offset g L = precision g L + balance g L

@@ -5,6 +5,7 @@ ghost use Rattle.std.specs.Prelude.{◌≡◌, ◌++◌, ◌-◌, ◌*◌, ◌/�
 ghost use Rattle.torus.specs.Word as W;
 ghost use Rattle.torus.specs.Bytes.{words};
 ghost use Rattle.gadget.specs.Digits as D;
+ghost use Rattle.gadget.specs.Decomposition as Decomposition;
 
 // Whether a word has room for l digits of base 2^g. l is tested before the product, so that nothing wraps.
 pub fn lawful(g: u64, l: u64) -> bool
@@ -38,22 +39,47 @@ pub fn step(g: u32, j: u32) -> u32
     pow2(32 - g * j)
 }
 
-// The last place of q as a signed digit: its g low bits, less half of the base.
+// The last place of q in base 2^g: its g low bits.
 fn low(q: u32, g: u32) -> u32
     requires { (1 ≤ g) × (g ≤ 16) }
-    ensures { result ≡ W.sub (q % 2 ^ g) (D.half g) }
+    ensures { result ≡ q % 2 ^ g }
 {
-    let mask = pow2(g) - 1;
-    let half = half(g);
-    torus::sub(q & mask, half)
+    q & (pow2(g) - 1)
 }
 
-// Digit j of the word from which t was made by adding the offset.
+// Digit j of the word from which t was made by adding the offset: place j, less half of the base.
 pub fn cut(t: u32, g: u32, j: u32) -> u32
     requires { (1 ≤ g) × (g ≤ 16) × (1 ≤ j) × (g * j ≤ 32) }
     ensures { result ≡ D.signed g t j }
 {
-    low(t >> (32 - g * j), g)
+    let place = low(t >> (32 - g * j), g);
+    let half = half(g);
+    torus::sub(place, half)
+}
+
+// 1 where the last place of q is half of the base or more: the highest bit of that place.
+fn carry(q: u32, g: u32) -> u32
+    requires { (1 ≤ g) × (g ≤ 16) }
+    ensures { result ≡ Decomposition.carry g q }
+{
+    low(q, g) >> (g - 1)
+}
+
+// The last place of q as a digit: less the base, where there is a carry.
+fn centred_remainder(q: u32, g: u32) -> u32
+    requires { (1 ≤ g) × (g ≤ 16) }
+    ensures { result ≡ Decomposition.centred_remainder g q }
+{
+    torus::sub(low(q, g), carry(q, g) << g)
+}
+
+// What is left over of q for the place before, when that digit has been taken.
+fn left_over(q: u32, g: u32) -> u32
+    requires { (1 ≤ g) × (g ≤ 16) }
+    ensures { result ≡ Decomposition.left_over g q }
+{
+    let carry = carry(q, g);
+    (q >> g) + carry
 }
 
 // A gadget, of base 2^g and l digits, for which a word has room. In the definitions l is L.
@@ -85,24 +111,36 @@ impl Gadget {
         o
     }
 
-    // All digits of w, digit 1 first, and zeros after them. The last digit is cut off first, then the word is shifted by g. No product
-    // calls this: they take one digit of every word, by write_digits. It is how a lesson or a table of vectors reads a word.
+    // The multiple of the last step that is closest to w, ties up, modulo 2^32. Half of the step is added, and what is then below the step
+    // shifted out.
+    pub fn closest_multiple(self, w: u32) -> u32
+        ensures { result ≡ Decomposition.closest_multiple self.g self.l w }
+    {
+        let step = step(self.g, self.l);
+        let below = 32 - self.g * self.l;
+        torus::add(w, step >> 1) >> below << below
+    }
+
+    // All digits of w, digit 1 first, and zeros after them: the closest multiple first, then digit after digit, the last one first. Products
+    // don't call this: they take one digit of every word, by write_digits. The programs `exercises` and `vectors` do.
     pub fn decompose(self, w: u32) -> [u32; 32]
-        ensures { result ≡ D.digits self.g self.l w ++ replicate (32 - self.l) 0 }
+        ensures { result ≡ Decomposition.digits self.g self.l w ++ replicate (32 - self.l) 0 }
     {
         let mut out = [0u32; 32];
-        let mut q = torus::add(w, self.offset()) >> (32 - self.g * self.l);
+        let mut q = self.closest_multiple(w) >> (32 - self.g * self.l);
         for i in (0..self.l as usize).rev() {
-            out[i] = low(q, self.g);
-            q >>= self.g;
+            out[i] = centred_remainder(q, self.g);
+            q = left_over(q, self.g);
         }
         out
     }
 
-    // The words of out become the digit polynomial of x: digit j of each of its words.
+    // The words of out become the digit polynomial of x: digit j of each of its words, by one addition, so that no digit waits for a carry.
+    // Both definitions of the digits are met.
     pub fn write_digits(self, out: &mut [u8], x: &[u8], j: u32)
         requires { (1 ≤ j) × (j ≤ self.l) × (length x.now ≡ length out.old) }
-        ensures { words out.new ≡ D.digit_polynomial (length out.old / 4) self.g self.l j (words x.now) }
+        ensures polynomial { words out.new ≡ D.digit_polynomial (length out.old / 4) self.g self.l j (words x.now) }
+        ensures decomposed { words out.new ≡ Decomposition.digit_polynomial (length out.old / 4) self.g self.l j (words x.now) }
     {
         let o = self.offset();
         for i in 0..out.len() / 4 {

@@ -41,7 +41,7 @@ invariant_of-pair c =
       degree = f.degree;
       small_length = omega (arith, f.digits_length);
       row_length = f.row_length;
-      small_words = rw (c.write_digits.ensures, let n : length s.digits.now / 4 ≡ s.n = omega (arith, f.digits_length) in n) (digit_polynomial_small s.n s.g s.l s.j _ f.lawful);
+      small_words = rw (c.write_digits.ensures.polynomial, let n : length s.digits.now / 4 ≡ s.n = omega (arith, f.digits_length) in n) (digit_polynomial_small s.n s.g s.l s.j _ f.lawful);
     }
 
 pub add_sparse_product-requires : goal.add_sparse_product-requires
@@ -52,7 +52,7 @@ returns c =
     let s = c.args in
     let f = fitting _ _ _ _ _ _ _ _ c.in_default.ensures in
     let size : length s.digits.now / 4 ≡ s.n = omega (arith, f.digits_length) in
-    let written = c.write_digits.ensures ∙ ap (λ n. digit_polynomial n s.g s.l s.j (words s.x.now)) size in
+    let written = c.write_digits.ensures.polynomial ∙ ap (λ n. digit_polynomial n s.g s.l s.j (words s.x.now)) size in
     record {
       number_is = sym (passed_number _ _ _ _ _ _ _ _ c.in_default.ensures);
       digits_are = digits_bytes _ _ _ _ _ _ written (omega (arith, f.digits_length)) (λ i. search rules);

@@ -11,5 +11,5 @@ returns c =
     let from = s.r / s.gadget.l * (4 * s.n) in
     let size = from + 4 * s.n - from in
     let lent = words (take size (drop from s.x.now)) in
-    c.write_digits.ensures ∙ ap (λ m. digit_polynomial m s.gadget.g s.gadget.l c.place.result lent) (omega arith)
+    c.write_digits.ensures.polynomial ∙ ap (λ m. digit_polynomial m s.gadget.g s.gadget.l c.place.result lent) (omega arith)
     ∙ row_digits_at s.n s.gadget.g s.gadget.l _ s.r from size s.x.now (omega arith) (omega arith) c.place.ensures.0

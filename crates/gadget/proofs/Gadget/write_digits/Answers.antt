@@ -1,12 +1,13 @@
 -- `gadget::Gadget::write_digits` meets its contract. The loop's invariant: the first i words are digit j of the first i words of x.
 -- Assumes nothing.
-use Rattle.std.proofs.Common.{◌≡◌, get_or, ap, ◌∙◌, arith}
+use Rattle.std.proofs.Common.{◌≡◌, get_or, sym, ap, ◌∙◌, arith}
 use Rattle.torus.specs.Word as W
 use Rattle.torus.specs.Bytes.{words}
 use Rattle.torus.proofs.Lists.{filled_none, filled_more, filled_done}
 use Rattle.torus.proofs.Parts.{length_words}
 use Rattle.gadget.specs.Digits as D
 use Rattle.gadget.proofs.Laws.{digit_cut}
+use Rattle.gadget.proofs.Decomposition.{same_polynomial}
 use Rattle.gadget.proofs.Gadget.write_digits.Goals as goal
 
 pub loop-i-init : goal.loop-i-init
@@ -25,4 +26,9 @@ loop-i-preserved c =
 
 pub returns : goal.returns
 unfolding D.digit_polynomial
-returns c = filled_done _ _ _ _ _ c.loop-i.invariant (omega arith) (length_words c.args.out.now)
+returns c =
+    let written = filled_done _ _ _ _ _ c.loop-i.invariant (omega arith) (length_words c.args.out.now) in
+    record {
+      polynomial = written;
+      decomposed = written ∙ sym (same_polynomial _ _ _ _ _ c.args.self.lawful c.requires.0 c.requires.1);
+    }
