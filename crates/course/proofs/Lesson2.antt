@@ -1,14 +1,17 @@
 -- Lesson 2, signed digits: the exercises, each with its solution. The function of exercise 2.7 is in src/lib.rt, its proof in
 -- proofs/round_word.
 -- Assumes nothing.
-use Rattle.std.proofs.Common.{◌≡◌, ℕ, zero, suc, ◌+◌, ◌-◌, ◌*◌, ◌/◌, ◌%◌, ◌^◌, ◌<◌, ◌≤◌, ◌⊎◌, [], ◌∷◌, get_or, sym, refl, ap, ◌∙◌, inl, inr, ⊎_elim, le_of_lt, mod-eq_of_lt, div-add-mod', arith, lit<, lit≤, pow_pos}
-use native.Mathlib.Nat.{mod-le, mod-add-div'}
+use Rattle.std.proofs.Common.{◌≡◌, ℕ, zero, suc, ◌+◌, ◌-◌, ◌*◌, ◌/◌, ◌%◌, ◌^◌, ◌<◌, ◌≤◌, ◌⊎◌, [], ◌∷◌, get_or, sym, refl, ap, ◌∙◌, subst, inl, inr, ⊎_elim, le_of_lt, mod-eq_of_lt, div-add-mod', arith, lit<, lit≤, pow_pos}
+use native.Mathlib.Nat.{mod-le, mod-add-div', zero-add, add-zero, mul-zero, mul-suc, lt_of_mul-lt-mul_right}
 use lib.Arith.{digits_div}
-use lib.Pow.{mod-mod-pow}
+use lib.Pow.{mod-mod-pow, pow-add, shr_lt}
 use Rattle.torus.specs.Sum.{sum, tabulate}
 use Rattle.torus.specs.Word.{magnitude, distance}
 use Rattle.torus.proofs.Magnitudes.{distance_sym, distance_triangle}
-use Rattle.gadget.specs.Digits.{Lawful, InRange, step, precision, rounded, weighted, digit, digits}
+use Rattle.gadget.specs.Digits.{Lawful, InRange, step, half, precision, rounded, weighted, digit, digits}
+use Rattle.gadget.specs.Decomposition as Decomposition
+use Rattle.gadget.specs.Decomposition.{closest_multiple, remainder, step_count, carry, centred_remainder, left_over, left_after}
+use Rattle.gadget.proofs.Decomposition.{carry_cases, closest_rounded}
 use Rattle.gadget.proofs.Laws.{digits_sum, digit_range}
 use Rattle.gadget.proofs.Lists.{list_unique}
 use Rattle.gadget.proofs.Rounding.{precision_twice, rounded_near, rounded_word}
@@ -97,3 +100,66 @@ round_law g L w room =
     let e : 32 ≡ g * L + (32 - g * L) = omega arith in
     let same : n % 2 ^ 32 % step g L ≡ n % step g L = ap (λ k. n % 2 ^ k % step g L) e ∙ mod-mod-pow n (g * L) (32 - g * L) in
     omega (arith, div-add-mod' n (step g L), mod-add-div' n (2 ^ 32), mod-le (n % 2 ^ 32) (step g L))
+
+-- Exercise 2.8. Algorithm 1 with pencil and paper, for the word 2147450880 with g = 8 and L = 2: compute what its closest multiple is in last
+-- steps, and its remainder; what is left before each digit and behind the last; and the digits.
+pub steps_by_hand : step_count 8 2 2147450880 ≡ 32768
+unfolding closest_multiple
+steps_by_hand = refl
+
+pub remainder_by_hand : remainder 8 2 2147450880 ≡ negative 32768
+unfolding closest_multiple
+remainder_by_hand = refl
+
+pub left_by_hand : tabulate 3 (left_after 8 32768) ≡ 32768 ∷ 128 ∷ 1 ∷ []
+unfolding tabulate left_after left_over carry
+left_by_hand = refl
+
+pub algorithm_by_hand : Decomposition.digits 8 2 2147450880 ≡ negative 128 ∷ 0 ∷ []
+unfolding Decomposition.digits Decomposition.digit tabulate closest_multiple left_after left_over centred_remainder carry
+algorithm_by_hand = refl
+
+-- Exercise 2.9. Where the thesis and document 01 differ. With g = 8 and L = 3 the closed interval has 128, too: take digit 1 of 2139062272 first,
+-- then 2, then 3, each so that what is left is nearest to 0, a tie up. Show that these digits have the right sum, and that Algorithm 1 in document
+-- 01's range gives others. And add up the remainders of the 256 words from one multiple of the last step to the next: a tie goes up, so their
+-- mean is not 0 but -1/2.
+pub first_digit_first : sum 3 (λ i. get_or (127 ∷ 128 ∷ negative 128 ∷ []) i 0 * step 8 (suc i)) % 2 ^ 32 ≡ closest_multiple 8 3 2139062272
+unfolding sum closest_multiple
+first_digit_first = refl
+
+pub last_digit_first : Decomposition.digits 8 3 2139062272 ≡ negative 128 ∷ negative 128 ∷ negative 128 ∷ []
+unfolding Decomposition.digits Decomposition.digit tabulate closest_multiple left_after left_over centred_remainder carry
+last_digit_first = refl
+
+pub remainders_total : sum 256 (remainder 8 3) % 2 ^ 32 ≡ negative 128
+unfolding sum closest_multiple
+remainders_total = refl
+
+-- Exercise 2.10. What is left over of digit 1, and is dropped, is 0 or 1. Show first that n leaves at most B if it is at most B·2^g.
+left_step : (g n B : ℕ) → n ≤ B * 2 ^ g → left_over g n ≤ B
+unfolding left_over
+left_step g n B h = ⊎_elim (λ c. omega (arith, up c.0, c.1)) (λ c. omega (arith, below, c.1)) (carry_cases g n)
+  where
+    below : n / 2 ^ g < B + 1
+    below = lt_of_mul-lt-mul_right (2 ^ g) (omega (arith, div-add-mod' n (2 ^ g), pow_pos g))
+
+    up : half g ≤ n % 2 ^ g → n / 2 ^ g < B
+    up c = lt_of_mul-lt-mul_right (2 ^ g) (omega (arith, div-add-mod' n (2 ^ g), pow_pos (g - 1)))
+
+left_bound : (g n i m : ℕ) → n ≤ 2 ^ (g * (i + m)) → left_after g n i ≤ 2 ^ (g * m)
+unfolding left_after
+left_bound g n zero m h = subst (λ k. n ≤ 2 ^ (g * k)) (zero-add m) h
+left_bound g n (suc i) m h =
+    let e : suc i + m ≡ i + suc m = omega arith in
+    let power : 2 ^ (g * suc m) ≡ 2 ^ (g * m) * 2 ^ g = ap (λ k. 2 ^ k) (mul-suc g m) ∙ pow-add 2 (g * m) g in
+    let before : left_after g n i ≤ 2 ^ (g * suc m) = left_bound g n i (suc m) (subst (λ k. n ≤ 2 ^ (g * k)) e h) in
+    left_step g (left_after g n i) (2 ^ (g * m)) (omega (arith, before, power))
+
+pub carry_out : (g L w : ℕ) → g * L ≤ 32 → left_after g (step_count g L w) L ≤ 1
+carry_out g L w room =
+    let e : 32 ≡ g * L + (32 - g * L) = omega arith in
+    let word : closest_multiple g L w < 2 ^ 32 = rw (closest_rounded g L w) (rounded_word g L w) in
+    let steps : step_count g L w < 2 ^ (g * L) = shr_lt (g * L) (32 - g * L) (subst (λ k. closest_multiple g L w < 2 ^ k) e word) in
+    let all : left_after g (step_count g L w) L ≤ 2 ^ (g * 0) =
+    left_bound g _ L 0 (subst (λ k. step_count g L w ≤ 2 ^ (g * k)) (sym (add-zero L)) (le_of_lt steps)) in
+    subst (λ k. left_after g (step_count g L w) L ≤ 2 ^ k) (mul-zero g) all
