@@ -1,17 +1,17 @@
 -- Lesson 2, signed digits: the exercises, each with its solution. The function of exercise 2.7 is in src/lib.rt, its proof in
 -- proofs/round_word.
 -- Assumes nothing.
-use Rattle.std.proofs.Common.{◌≡◌, ℕ, zero, suc, ◌+◌, ◌-◌, ◌*◌, ◌/◌, ◌%◌, ◌^◌, ◌<◌, ◌≤◌, ◌⊎◌, [], ◌∷◌, get_or, sym, refl, ap, ◌∙◌, subst, inl, inr, ⊎_elim, le_of_lt, mod-eq_of_lt, div-add-mod', arith, lit<, lit≤, pow_pos}
-use native.Mathlib.Nat.{mod-le, mod-add-div', zero-add, add-zero, mul-zero, mul-suc, lt_of_mul-lt-mul_right}
+use Rattle.std.proofs.Common.{◌≡◌, ℕ, zero, suc, ◌+◌, ◌-◌, ◌*◌, ◌/◌, ◌%◌, ◌^◌, ◌<◌, ◌≤◌, ◌⊎◌, [], ◌∷◌, get_or, sym, refl, ap, ap₂, ◌∙◌, subst, inl, inr, ⊎_elim, le_of_lt, mod-lt, mod-eq_of_lt, div-add-mod', arith, lit<, lit≤, pow_pos}
+use native.Mathlib.Nat.{mod-le, mod-add-div', suc-mul, zero-add, add-zero, mul-zero, mul-suc, lt_of_mul-lt-mul_right}
 use lib.Arith.{digits_div}
-use lib.Pow.{mod-mod-pow, pow-add, shr_lt}
+use lib.Pow.{mod-mod-pow, pow-add, pow_mono, shr_lt}
 use Rattle.torus.specs.Sum.{sum, tabulate}
-use Rattle.torus.specs.Word.{magnitude, distance}
+use Rattle.torus.specs.Word.{add, sub, magnitude, distance}
 use Rattle.torus.proofs.Magnitudes.{distance_sym, distance_triangle}
 use Rattle.gadget.specs.Digits.{Lawful, InRange, step, half, precision, rounded, weighted, digit, digits}
 use Rattle.gadget.specs.Decomposition as Decomposition
 use Rattle.gadget.specs.Decomposition.{closest_multiple, remainder, step_count, carry, centred_remainder, left_over, left_after}
-use Rattle.gadget.proofs.Decomposition.{carry_cases, closest_rounded}
+use Rattle.gadget.proofs.Decomposition.{carry_cases, closest_half, closest_rounded}
 use Rattle.gadget.proofs.Laws.{digits_sum, digit_range}
 use Rattle.gadget.proofs.Lists.{list_unique}
 use Rattle.gadget.proofs.Rounding.{precision_twice, rounded_near, rounded_word}
@@ -119,10 +119,9 @@ pub algorithm_by_hand : Decomposition.digits 8 2 2147450880 ≡ negative 128 ∷
 unfolding Decomposition.digits Decomposition.digit tabulate closest_multiple left_after left_over centred_remainder carry
 algorithm_by_hand = refl
 
--- Exercise 2.9. Where the thesis and document 01 differ. With g = 8 and L = 3 the closed interval has 128, too: take digit 1 of 2139062272 first,
--- then 2, then 3, each so that what is left is nearest to 0, a tie up. Show that these digits have the right sum, and that Algorithm 1 in document
--- 01's range gives others. And add up the remainders of the 256 words from one multiple of the last step to the next: a tie goes up, so their
--- mean is not 0 but -1/2.
+-- Exercise 2.9. The thesis' interval is closed: with g = 8 and L = 3 it has 128, too. Take digit 1 of 2139062272 first, then 2, then 3, each so
+-- that what is left is nearest to 0, a tie up. Show that these digits have the right sum, and that Algorithm 1 in document 01's range gives
+-- others.
 pub first_digit_first : sum 3 (λ i. get_or (127 ∷ 128 ∷ negative 128 ∷ []) i 0 * step 8 (suc i)) % 2 ^ 32 ≡ closest_multiple 8 3 2139062272
 unfolding sum closest_multiple
 first_digit_first = refl
@@ -131,11 +130,42 @@ pub last_digit_first : Decomposition.digits 8 3 2139062272 ≡ negative 128 ∷ 
 unfolding Decomposition.digits Decomposition.digit tabulate closest_multiple left_after left_over centred_remainder carry
 last_digit_first = refl
 
-pub remainders_total : sum 256 (remainder 8 3) % 2 ^ 32 ≡ negative 128
-unfolding sum closest_multiple
-remainders_total = refl
+-- Exercise 2.10. The thesis' remainder has mean 0. Here a tie goes up: take the word i behind a multiple of the last step and the one that is
+-- i + 1 before the next, for i below half of the step. Show that their remainders add up to -1. So the mean is -1/2, where E is not 0.
+less_behind : (x q r d : ℕ) → r < 2 ^ 32 → d < 2 ^ 32 → x ≡ r + q * 2 ^ 32 + d → sub x r ≡ d
+less_behind x q r d word small e = omega arith
 
--- Exercise 2.10. What is left over of digit 1, and is dropped, is 0 or 1. Show first that n leaves at most B if it is at most B·2^g.
+less_before : (x q r d : ℕ) → r < 2 ^ 32 → d < 2 ^ 32 → x + d ≡ r + q * 2 ^ 32 → sub x r ≡ negative d
+less_before x q r d word small e = omega arith
+
+-- Where x and half a step are n steps and less than one more, n steps are the closest multiple of x.
+closest_step : (g L x n r : ℕ) → x + step g L / 2 ≡ n * step g L + r → r < step g L → closest_multiple g L x ≡ n * step g L % 2 ^ 32
+closest_step g L x n r e l =
+    closest_half g L x ∙ ap (λ y. y / step g L * step g L % 2 ^ 32) e ∙ ap (λ y. y * step g L % 2 ^ 32) (digits_div n l)
+
+remainder_behind : (g L n i : ℕ) → i < step g L / 2 → remainder g L (n * step g L + i) ≡ i
+remainder_behind g L n i l =
+    let S : ℕ = step g L in
+    let room : S ≤ 2 ^ 32 = pow_mono {i = 32 - g * L} {j = 32} (omega arith) in
+    rw (closest_step g L (n * S + i) n (i + S / 2) (omega arith) (omega arith))
+    (less_behind (n * S + i) (n * S / 2 ^ 32) (n * S % 2 ^ 32) i (mod-lt _ (lit< tt)) (omega arith) (omega (arith, mod-add-div' (n * S) (2 ^ 32))))
+
+remainder_before : (g L n i : ℕ) → i < step g L / 2 → remainder g L (n * step g L + (step g L - suc i)) ≡ negative (suc i)
+remainder_before g L n i l =
+    let S : ℕ = step g L in
+    let room : S ≤ 2 ^ 32 = pow_mono {i = 32 - g * L} {j = 32} (omega arith) in
+    let x : ℕ = n * S + (S - suc i) in
+    let next : suc n * S ≡ n * S + S = suc-mul n S in
+    rw (closest_step g L x (suc n) (S / 2 - suc i) (omega (arith, next)) (omega arith))
+    (less_before x (suc n * S / 2 ^ 32) (suc n * S % 2 ^ 32) (suc i) (mod-lt _ (lit< tt)) (omega arith) (omega (arith, next, mod-add-div' (suc n * S) (2 ^ 32))))
+
+pub remainder_pair : (g L n i : ℕ) → i < step g L / 2
+    → add (remainder g L (n * step g L + i)) (remainder g L (n * step g L + (step g L - suc i))) ≡ negative 1
+remainder_pair g L n i l =
+    let room : step g L ≤ 2 ^ 32 = pow_mono {i = 32 - g * L} {j = 32} (omega arith) in
+    ap₂ add (remainder_behind g L n i l) (remainder_before g L n i l) ∙ omega arith
+
+-- Exercise 2.11. What is left over of digit 1, and is dropped, is 0 or 1. Show first that n leaves at most B if it is at most B·2^g.
 left_step : (g n B : ℕ) → n ≤ B * 2 ^ g → left_over g n ≤ B
 unfolding left_over
 left_step g n B h = ⊎_elim (λ c. omega (arith, up c.0, c.1)) (λ c. omega (arith, below, c.1)) (carry_cases g n)

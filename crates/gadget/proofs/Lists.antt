@@ -51,25 +51,28 @@ digit_polynomial_small N g L j x ok i h =
 
 -- ---- L digits, whichever they are, and zeros up to 32
 
+abbrev listed : ℕ → (ℕ → ℕ) → List ℕ
+listed L d = tabulate L (λ i. d (suc i))
+
 abbrev pub padded : ℕ → (ℕ → ℕ) → List ℕ
-padded L d = tabulate L (λ i. d (suc i)) ++ replicate (32 - L) 0
+padded L d = listed L d ++ replicate (32 - L) 0
+
+listed_length : (L : ℕ) (d : ℕ → ℕ) → length (listed L d) ≡ L
+listed_length L d = length_tabulate L (λ i. d (suc i))
 
 padded_length : (L : ℕ) (d : ℕ → ℕ) → L ≤ 32 → length (padded L d) ≡ 32
 padded_length L d h =
-    let ds = tabulate L (λ i. d (suc i)) in
-    omega (arith, length-append ds (replicate (32 - L) 0), length_tabulate L (λ i. d (suc i)), length-replicate {A = ℕ} (32 - L) 0)
+    omega (arith, length-append (listed L d) (replicate (32 - L) 0), listed_length L d, length-replicate {A = ℕ} (32 - L) 0)
 
 padded_low : (L : ℕ) (d : ℕ → ℕ) (i : ℕ) → i < L → get_or (padded L d) i 0 ≡ d (suc i)
 padded_low L d i h =
-    get_or-append (tabulate L (λ i. d (suc i))) (replicate (32 - L) 0) 0 i (omega (arith, length_tabulate L (λ i. d (suc i))))
-    ∙ tabulate_at L (λ i. d (suc i)) i h
+    get_or-append (listed L d) (replicate (32 - L) 0) 0 i (omega (arith, listed_length L d)) ∙ tabulate_at L (λ i. d (suc i)) i h
 
 padded_high : (L : ℕ) (d : ℕ → ℕ) (i : ℕ) → L ≤ i → i < 32 → get_or (padded L d) i 0 ≡ 0
 padded_high L d i l u =
-    let ds = tabulate L (λ i. d (suc i)) in
-    let e : i ≡ length ds + (i - L) = omega (arith, length_tabulate L (λ i. d (suc i))) in
+    let e : i ≡ length (listed L d) + (i - L) = omega (arith, listed_length L d) in
     ap (λ k. get_or (padded L d) k 0) e
-    ∙ get_or-append-add ds (replicate (32 - L) 0) (i - L) 0
+    ∙ get_or-append-add (listed L d) (replicate (32 - L) 0) (i - L) 0
     ∙ get_or-replicate (32 - L) (i - L) 0 0 (omega arith)
 
 -- out has every digit after the first j, and the zeros.

@@ -25,11 +25,12 @@ loop-i-preserved c =
     let at = c.loop-i in
     let within : at.i ≤ l = omega arith in
     let some : 1 ≤ at.i = omega arith in
+    let few : l ≤ 32 = count_le g l c.args.self.lawful in
     let digit : c.centred_remainder.result ≡ Decomposition.digit g l w at.i =
     c.centred_remainder.ensures ∙ ap (Decomposition.centred_remainder g) at.invariant.1 in (
       length-set at.out (at.i - 1) c.centred_remainder.result ∙ at.invariant.0,
       c.left_over-q.ensures ∙ ap (Decomposition.left_over g) at.invariant.1 ∙ left_more g _ l at.i some within,
-      laid_more l (Decomposition.digit g l w) at.i c.centred_remainder.result at.out at.invariant.0 (count_le g l c.args.self.lawful) some within digit at.invariant.2,
+      laid_more l (Decomposition.digit g l w) at.i _ at.out at.invariant.0 few some within digit at.invariant.2,
     )
 
 pub returns : goal.returns
