@@ -4,7 +4,7 @@
     jumps.py PROGRAM ARCHIVE
 
 Their outcomes are the path of a call, as long as nothing else decides where it goes. So this ends with status 1 if the library
-jumps to an address that it computes, has an instruction that repeats, or calls a function of another library but memcpy, memmove and memset.
+jumps to an address that it computes, has an instruction that repeats, or calls a function of another library but memcpy and memset.
 """
 
 import re
@@ -13,7 +13,7 @@ import sys
 
 CONDITIONAL = re.compile(r"j(?!mp)[a-z]+")
 OTHER_WAYS = re.compile(r"(?:jmp|call)q? +\*|loop|rep|j[er]?cxz|xbegin|syscall")
-SEEN = {"memcpy", "memmove", "memset", "_GLOBAL_OFFSET_TABLE_"}
+SEEN = {"memcpy", "memset", "_GLOBAL_OFFSET_TABLE_"}
 
 
 def output(*command):

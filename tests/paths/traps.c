@@ -83,31 +83,18 @@ static void on_trap(int number, siginfo_t *information, void *context)
     registers[REG_RIP] = (greg_t)(taken ? jump->taken : jump->passed);
 }
 
-/* The linker puts these in place of memcpy, memmove and memset, whose way depends on where they work and how far. */
+/* The linker puts these in place of memcpy and memset, whose way depends on where they work and how far. */
 void *__real_memcpy(void *to, const void *from, size_t length);
-void *__real_memmove(void *to, const void *from, size_t length);
 void *__real_memset(void *to, int byte, size_t length);
 void *__wrap_memcpy(void *to, const void *from, size_t length);
-void *__wrap_memmove(void *to, const void *from, size_t length);
 void *__wrap_memset(void *to, int byte, size_t length);
 
-static void add_copy(const void *to, const void *from, size_t length)
+void *__wrap_memcpy(void *to, const void *from, size_t length)
 {
     add_step((uint64_t)(uintptr_t)to);
     add_step((uint64_t)(uintptr_t)from);
     add_step(length);
-}
-
-void *__wrap_memcpy(void *to, const void *from, size_t length)
-{
-    add_copy(to, from, length);
     return __real_memcpy(to, from, length);
-}
-
-void *__wrap_memmove(void *to, const void *from, size_t length)
-{
-    add_copy(to, from, length);
-    return __real_memmove(to, from, length);
 }
 
 void *__wrap_memset(void *to, int byte, size_t length)
@@ -192,5 +179,5 @@ size_t parting(const struct path *left, const struct path *right)
 const char *function_of(const struct path *path, size_t step)
 {
     const struct jump *jump = step < path->count ? jump_at((const uint8_t *)(uintptr_t)(path->step[step] / 2)) : NULL;
-    return jump ? jump->function : "memcpy, memmove or memset";
+    return jump ? jump->function : "memcpy or memset";
 }

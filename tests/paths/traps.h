@@ -1,5 +1,5 @@
 /*
- * The path of a call through the library: the outcome of every conditional jump, and what it has memcpy, memmove and memset do.
+ * The path of a call through the library: the outcome of every conditional jump, and what it has memcpy and memset do.
  * Nothing else decides which instructions run: jumps.py refuses a library with jumps of another kind.
  *
  * A jump is seen by a trap. While a call is recorded the first byte of each conditional jump of the library is the

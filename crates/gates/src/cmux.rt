@@ -45,8 +45,8 @@ fn cmux_in(out: &mut [u8], room: &mut [u8], lent: &Lent, p: Parameters)
     ensures { words out.new ≡ External.cmux_sample p
         (words lent.now.block.now) (words lent.now.sample0.now) (words lent.now.sample1.now) }
 {
-    out.copy_from_slice(lent.sample0);
-    room.copy_from_slice(lent.sample1);
+    torus::copy_words(out, lent.sample0);
+    torus::copy_words(room, lent.sample1);
     cmux_in_place(out, room, lent.block, p);
 }
 

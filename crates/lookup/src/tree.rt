@@ -44,7 +44,7 @@ fn keep(work: &mut [u8], sample: &[u8])
         ≡ words sample.now ++ drop (length sample.now / 4) (words work.old) }
 {
     let own = sample.len();
-    work[0..own].copy_from_slice(sample);
+    torus::copy_words(&mut work[0..own], sample);
 }
 
 // The CMux by selector i of two samples: sample0 in `sample`, where the result goes, and sample1 at the front of work. The ledger is

@@ -40,7 +40,7 @@ fn write_lent(sample: &mut [u8], lent: &[u8], x: Lawful)
 {
     match x.numbers.visibility {
         Visibility::Public => write_classes(sample, lent, x),
-        Visibility::Hidden => sample.copy_from_slice(lent),
+        Visibility::Hidden => torus::copy_words(sample, lent),
     }
 }
 

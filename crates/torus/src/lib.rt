@@ -61,6 +61,17 @@ pub fn put_word(s: &mut [u8], i: usize, w: u32)
     s[4 * i + 3] = d;
 }
 
+// The words of out become those of a. By a loop of its own: `copy_from_slice` calls `memmove`, which whoever links the archive for C would
+// have to bring.
+pub fn copy_words(out: &mut [u8], a: &[u8])
+    requires { length a.now ≡ length out.old }
+    ensures { words out.new ≡ words a.now }
+{
+    for i in 0..out.len() / 4 {
+        put_word(out, i, word_at(a, i));
+    }
+}
+
 // The words of out become 0.
 pub fn clear_words(out: &mut [u8])
     ensures { words out.new ≡ replicate (length out.old / 4) 0 }

@@ -97,7 +97,7 @@ fn write_body(out: &mut [u8], x: &Encryption)
     ensures { words out.new ≡ tabulate x.now.key.n (Sample.body x.now.key.n x.now.key.k
         (words x.now.key.polynomials.now) (words x.now.masks.now) (words x.now.errors.now) (λ i. 0)) }
 {
-    out.copy_from_slice(x.errors);
+    torus::copy_words(out, x.errors);
     add_masked(out, &x.key, x.masks);
 }
 
@@ -110,7 +110,7 @@ pub fn encrypt_zero(sample: &mut [u8], x: &Encryption)
         (words x.now.key.polynomials.now) (words x.now.masks.now) (words x.now.errors.now) (λ i. 0) }
 {
     let body = x.masks.len();
-    sample[0..body].copy_from_slice(x.masks);
+    torus::copy_words(&mut sample[0..body], x.masks);
     write_body(&mut sample[body..], x);
 }
 

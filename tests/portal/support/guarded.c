@@ -106,7 +106,7 @@ static size_t behind(const struct guarded *g, size_t k)
     return rest < GUARD + 4096 ? rest : GUARD + 4096;
 }
 
-/* Under AddressSanitizer a memcpy, memmove or memset that touches what is sealed during a call is a fault, also where it only reads. */
+/* Under AddressSanitizer a memcpy or memset that touches what is sealed during a call is a fault, also where it only reads. */
 static void seal(const struct guarded *g, size_t slices)
 {
     for (size_t k = 0; k < slices; k++)

@@ -14,12 +14,12 @@ returns c =
     let key = x.key in
     let n = key.k * key.n in
     let p = length x.masks.now in
-    let copied : List ℕ = c.copy_from_slice.new.self in
+    let copied : List ℕ = c.copy_words.new.out in
     let sample : List ℕ = take 0 s.sample.now ++ (copied ++ drop (p - 0) (drop 0 s.sample.now)) in
     let kept : length sample ≡ length s.sample.now = masks_kept (p - 0) s.sample.now copied (omega arith) (omega arith) in
     let masks : words sample ≡ words x.masks.now ++ drop n (words s.sample.now) =
     front_back n (p - 0) s.sample.now copied (omega arith) (omega arith)
-    ∙ ap (λ a. words a ++ drop n (words s.sample.now)) c.copy_from_slice.ensures.after in
+    ∙ ap (λ ws. ws ++ drop n (words s.sample.now)) c.copy_words.ensures in
     body_back key.n n p (length sample - p) sample (words x.masks.now) _ masks
     (omega (arith, length_words x.masks.now)) (omega (arith, length-drop n (words s.sample.now), length_words s.sample.now))
     (omega arith) (omega arith) _ (omega arith) (omega arith)
