@@ -95,8 +95,9 @@ fn check_lengths(lent: &Lent, block: &[u8], p: Bounded) -> Checked
     answers::exact(block.len(), whole)
 }
 
-// What encrypt_selector answers.
+// What encrypt_selector answers. Inlined, so that who asks for the gates alone doesn't go through the errors.
 #[tactic(auto, unfolding(crate::specs::Calls::encrypt_selector))]
+#[inline]
 pub fn encrypt_selector_answer(lent: &Lent, block: &[u8]) -> Answer
     ensures { result ≡ Calls.encrypt_selector (Calls.selector_of lent.now block.now) }
 {

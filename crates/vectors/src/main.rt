@@ -84,14 +84,14 @@ fn run_product(
 }
 
 // The product of the record at word `at`: N, g, L, j, and the N words of each of x, row and out. Answers the word after it, or
-// the end of the input where the record does not lie inside.
+// the end of the input where the record does not lie inside. N alone is read before that is known: a count may be far beyond the input, and
+// each record that it counts there is asked for.
 fn run_record(input: &[u8], at: usize) -> usize
     requires { at ≤ 2 ^ 62 }
     ensures { result ≤ 2 ^ 62 }
 {
     let end = input.len() / 4;
-    let numbers = input_words::<4>(input, at);
-    let n = numbers[0] as usize;
+    let n = input_word(input, at) as usize;
     if 1024 < n {
         return end;
     }
@@ -112,7 +112,7 @@ fn run_record(input: &[u8], at: usize) -> usize
         &input[x..row],
         &input[row..start],
         &input[start..stop],
-        numbers,
+        input_words(input, at),
     );
     next
 }
