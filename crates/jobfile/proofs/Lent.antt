@@ -3,7 +3,7 @@
 use mathlib.Core.Path.{◌≡◌, sym, ap, ◌∙◌}
 use mathlib.Core.List.{List, ◌++◌}
 use Prim.Native.Nat.{ℕ, ◌+◌, ◌*◌}
-use lib.ListN.{length, take, length-replicate}
+use lib.ListN.{length, length-replicate}
 use lib.Seq.{take_at}
 use Rattle.std.specs.Prelude.{Ok, Err}
 use Rattle.answers.specs.Answers.{number}
@@ -48,12 +48,12 @@ module _ (x : Numbers) (blocks amplitudes classes sample work : List ℕ) (es : 
   gives_refused r e = let same = sym e ∙ lent in (same, after_err _ r _ _ (sym same))
 
   -- An accepted one tells the sample that it leaves at the front of the room.
-  pub gives_accepted : (n : ℕ) (ledger : Ledger) (l rest bs : List ℕ) → n ≡ 4 * sample_size (parameters x.scheme) → lookup j ≡ Ok ledger
-      → l ≡ lookup_sample j → bs ≡ take n (l ++ rest)
-      → Gives (Ok (record { ledger = ledger; sample = record { items = bs } })) (lookup roomy) (Inner.sample roomy)
-  gives_accepted n ledger l rest bs en ea el eb =
+  pub gives_accepted : (n : ℕ) (ledger : Ledger) (l rest : List ℕ) → n ≡ 4 * sample_size (parameters x.scheme) → lookup j ≡ Ok ledger
+      → l ≡ lookup_sample j
+      → Gives (Ok (record { ledger = ledger; size = n; sample = l ++ rest })) (lookup roomy) (Inner.sample roomy)
+  gives_accepted n ledger l rest en ea el =
       let e : IsAccepted roomy = sym (ap number lent) ∙ ap number ea in
       let same : l ≡ Inner.sample roomy =
       el ∙ sample_lent j _ _ (es ∙ sym (length-replicate _ 0)) (ew ∙ sym (length-replicate _ 0)) e ∙ sym (after_written _ _ _ e) in
       let size : length l ≡ n = ap length el ∙ lookup_length j (ap number ea) ∙ sym en in
-      (sym ea ∙ lent, eb ∙ take_at l rest n size ∙ same)
+      (sym ea ∙ lent, sym size ∙ ap length same, take_at l rest n size ∙ same)

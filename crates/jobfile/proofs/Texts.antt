@@ -6,7 +6,7 @@ use mathlib.Core.List.{List, []}
 use Prim.Native.Nat.{ℕ, zero, suc, ◌*◌, ◌/◌, ◌≤◌, ◌<◌}
 use native.Mathlib.Omega.{arith}
 use lib.Dec.{leb}
-use lib.ListN.{length, take, drop}
+use lib.ListN.{length, take, drop, length-take}
 use borrow.Author.Tests.{lt-leb}
 use Rattle.torus.specs.Bytes.{words}
 use Rattle.std.specs.Prelude.{Result, Ok, Err, IfOk}
@@ -100,10 +100,9 @@ module _ (file : List ℕ) where
 -- ---- what is shown of a file
 
 -- What the reader gives stands in its room.
-pub gives_within : (file : List ℕ) (r : Result Outcome Refusal) → Gives r (job_answer file) (job_sample file)
-    → IfOk r (λ x. length x.sample.items ≤ SAMPLE_ROOM)
-gives_within file (Ok x) t = rw t.1 (sample_size file).1
-gives_within file (Err r) t = tt
+pub gives_within : (r : Result Outcome Refusal) (a : Answer) (bs : List ℕ) → Gives r a bs → IfOk r (λ x. x.size ≤ length x.sample)
+gives_within (Ok x) a bs t = omega (arith, length-take x.size x.sample, ap length t.2, t.1)
+gives_within (Err r) a bs t = tt
 
 -- The answer 5 is the output for every file that is too large.
 pub shows_long : (file mask body room : List ℕ) (size : ℕ) → largest_file < length file

@@ -1,6 +1,6 @@
 -- The job in a file, and what the program answers: the whole answer and the sample, for every byte string.
 -- Assumes nothing.
-use Rattle.std.specs.Prelude.{◌≡◌, true, ◌&&◌, Result, Ok, Err, List, [], ℕ, ◌+◌, ◌*◌, ◌%◌, ◌≤◌, eqb, leb, length, get_or, drop}
+use Rattle.std.specs.Prelude.{◌≡◌, true, ◌&&◌, Result, Ok, Err, List, [], ℕ, ◌+◌, ◌*◌, ◌%◌, ◌≤◌, eqb, leb, length, get_or, take, drop}
 use Rattle.torus.specs.Sum.{tabulate, joined, chunk}
 use Rattle.torus.specs.Bytes.{words, bytes}
 use Rattle.answers.specs.Checks.{Checked, ◌or_else◌}
@@ -91,7 +91,8 @@ job_answer file = file_refusal file or_else lookup (read_job file)
 unfoldable pub job_sample : (file : List ℕ) → List ℕ
 job_sample file = after (job_answer file) (lookup_sample (read_job file)) []
 
--- What the reader gives tells an answer and the bytes of a sample, of which a refused file has none.
+-- What the reader gives tells an answer and the bytes of a sample, of which a refused file has none. What stands behind them in the room of
+-- the sample is free.
 abbrev pub Gives : (r : Result Outcome Refusal) (a : Answer) (bs : List ℕ) → Type 0
-Gives (Ok x) a bs = (Ok x.ledger ≡ a) × (x.sample.items ≡ bs)
+Gives (Ok x) a bs = (Ok x.ledger ≡ a) × (x.size ≡ length bs) × (take x.size x.sample ≡ bs)
 Gives (Err refusal) a bs = (Err refusal ≡ a) × ([] ≡ bs)

@@ -15,17 +15,17 @@ ghost use Rattle.jobfile.specs.Reader as Reader;
 ghost use Rattle.jobfile.specs.Inner as Inner;
 
 use answers::{Ledger, Refusal};
-use arrayvec::ArrayVec;
 use checks::JobFile;
 use layout::{AMPLITUDES_ROOM, BLOCKS_ROOM, SAMPLE_ROOM, WORK_ROOM, room};
 use parts::SectionTwo;
 use tables::Lawful;
 
-// What comes of a file that is accepted: what its lookup reports, and the bytes of the sample.
-#[derive(Drop)]
+// What comes of a file that is accepted: what its lookup reports, and the bytes of the sample at the front of a room for the largest.
+#[derive(Clone, Copy)]
 pub struct Outcome {
     pub ledger: Ledger,
-    pub sample: ArrayVec<u8, SAMPLE_ROOM>,
+    pub size: usize,
+    pub sample: [u8; SAMPLE_ROOM],
 }
 
 // The lookup of a job that is taken apart.
@@ -45,11 +45,10 @@ fn evaluate(x: Lawful, blocks: &[u8], amplitudes: &[u8], classes: &[u8]) -> Resu
         entry_amplitudes: &[],
     };
     let ledger = lookup::lookup(&lent, &mut sample[..size], &mut work[..work_size])?;
-    let mut bytes = ArrayVec::from(sample);
-    bytes.truncate(size);
     Ok(Outcome {
         ledger,
-        sample: bytes,
+        size,
+        sample,
     })
 }
 

@@ -7,7 +7,13 @@ ghost use Rattle.jobfile.specs.Output as Output;
 
 use crate::layout::{SAMPLE_ROOM, TEXT_ROOM, room};
 use answers::{Answer, Refusal};
-use arrayvec::ArrayVec;
+
+// A text at the front of a room for the longest, and how many bytes it has.
+#[derive(Clone, Copy)]
+pub struct Text {
+    pub size: usize,
+    pub bytes: [u8; TEXT_ROOM],
+}
 
 // The text of an answer, and of a sample of which the first half is its mask. Rooms are lent as slices, so that their length stays a clause.
 fn show(room: &mut [u8], answer: Answer, sample: &[u8]) -> usize
@@ -24,7 +30,7 @@ pub fn write_output(room: &mut [u8], file: &[u8]) -> usize
     ensures { Output.Shows room.new result (Output.output file.now) }
 {
     match crate::run(file) {
-        Ok(outcome) => show(room, Ok(outcome.ledger), outcome.sample.as_slice()),
+        Ok(outcome) => show(room, Ok(outcome.ledger), &outcome.sample[..outcome.size]),
         Err(refusal) => show(room, Err(refusal), &[]),
     }
 }
@@ -39,23 +45,15 @@ pub fn write_output_of_longer(room: &mut [u8]) -> usize
 
 // The output for an input that begins with the bytes of `file`, for a caller that lends no room. Where `more` is true, the input goes on
 // behind them and is too large.
-pub fn output(file: &[u8], more: bool) -> ArrayVec<u8, TEXT_ROOM>
-    ensures { (rest : List ℕ) → Output.Continues more file.now rest → result.items ≡ Output.output (file.now ++ rest) }
+pub fn output(file: &[u8], more: bool) -> Text
+    ensures { (result.size ≤ length result.bytes) × ((rest : List ℕ) → Output.Continues more file.now rest
+        → Output.Shows result.bytes result.size (Output.output (file.now ++ rest))) }
 {
-    let mut room = room::<TEXT_ROOM>();
+    let mut bytes = room::<TEXT_ROOM>();
     if more {
-        let size = write_output_of_longer(&mut room);
-        return front(room, size);
+        let size = write_output_of_longer(&mut bytes);
+        return Text { size, bytes };
     }
-    let size = write_output(&mut room, file);
-    front(room, size)
-}
-
-// The bytes at the front of a room.
-fn front(room: [u8; TEXT_ROOM], size: usize) -> ArrayVec<u8, TEXT_ROOM>
-    ensures { result.items ≡ take size room }
-{
-    let mut bytes = ArrayVec::from(room);
-    bytes.truncate(size);
-    bytes
+    let size = write_output(&mut bytes, file);
+    Text { size, bytes }
 }

@@ -73,5 +73,5 @@ returns c =
     gives_accepted a.x.numbers c.args.blocks.now a.amplitudes.now a.classes.now _ _
     (sample_length a.x.numbers a.x.lawful _ own _ c.room-sample.ensures)
     (work_length a.x.numbers a.x.lawful _ own _ c.room-work.ensures)
-    (4 * c.sample_size.result) _ c.lookup.new.sample (drop (4 * c.sample_size.result) c.room-sample.result) c.truncate.new.self.items (ap (λ (m : ℕ). 4 * m) own)
-    (sym c.lookup.ensures.0 ∙ c.in_ok-ledger.was) c.lookup.ensures.1 (c.truncate.ensures.items ∙ ap (take (4 * c.sample_size.result)) c.from-bytes.ensures.0)
+    (4 * c.sample_size.result) _ c.lookup.new.sample (drop (4 * c.sample_size.result) c.room-sample.result) (ap (λ (m : ℕ). 4 * m) own)
+    (sym c.lookup.ensures.0 ∙ c.in_ok-ledger.was) c.lookup.ensures.1
