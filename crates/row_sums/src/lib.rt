@@ -4,13 +4,18 @@
 #![tactic(auto)]
 
 ghost use Rattle.std.specs.Prelude.{◌≡◌, suc, ◌*◌, ◌≤◌, ◌<◌, length};
-ghost use Rattle.torus.specs.Bytes.{words};
+ghost use Rattle.torus.specs.Bytes.{AreBytes, words};
 ghost use Rattle.gadget.specs.Digits.{half};
 ghost use Rattle.rns.specs.Exact.{add_rows};
 ghost use Rattle.row_terms.specs.Rows.{row_part, row_digits, digits_from, rows_from};
 
 use row_terms::{Batch, Terms};
 use twiddles::Prime;
+
+// The elements of a slice are bytes. That is known of a parameter, and not of a slice in a struct, so this tells it of one.
+fn are_bytes(_s: &[u8])
+    ensures { AreBytes _s.now }
+{}
 
 // To out, the terms of a batch, so few that two primes tell their sums. There is room for one mask and the body.
 fn add_batch(out: &mut [u8], room: &mut [u8], batch: &Batch)
@@ -20,6 +25,7 @@ fn add_batch(out: &mut [u8], room: &mut [u8], batch: &Batch)
         words out.new ≡ add_rows t.n t.k batch.now.count (digits_from t.n t.gadget.g t.gadget.l (words t.x.now) batch.now.from)
         (rows_from t.n t.k (words t.block.now) batch.now.from) (words out.old)) }
 {
+    are_bytes(batch.terms.block);
     let mut first = [0u32; 2048];
     let mut second = [0u32; 2048];
     let size = (batch.terms.k + 1) * batch.terms.n;

@@ -1,7 +1,7 @@
 // The terms of the rows of a block, digit polynomial times row, summed up modulo one prime.
 #![tactic(auto)]
 
-ghost use Rattle.std.specs.Prelude.{◌≡◌, ℕ, suc, ◌+◌, ◌*◌, ◌/◌, ◌%◌, ◌≤◌, ◌<◌, length, slice_index};
+ghost use Rattle.std.specs.Prelude.{◌≡◌, ℕ, suc, ◌+◌, ◌*◌, ◌/◌, ◌%◌, ◌≤◌, ◌<◌, length};
 ghost use Rattle.torus.specs.Sum.{tabulate};
 ghost use Rattle.torus.specs.Bytes.{words};
 ghost use Rattle.ring.specs.Polynomial.{Degree, Agree, coefficients, log};
@@ -15,7 +15,7 @@ use gadget::Gadget;
 use twiddles::Prime;
 
 // The terms of an external product: the rows of a block, and a sample, whose digits go with them. Both have k masks and a body, of n
-// coefficients each. That the elements of a slice are bytes is known of a parameter; of a slice in a struct the struct has to say it.
+// coefficients each.
 #[derive(Clone, Copy)]
 pub struct Terms<'a> {
     pub block: &'a [u8],
@@ -26,7 +26,6 @@ pub struct Terms<'a> {
     pub ghost degree: { Degree n },
     pub ghost block_length: { length block.now ≡ 4 * block_size n k gadget.l },
     pub ghost x_length: { length x.now ≡ 4 * (suc k * n) },
-    pub ghost block_bytes: { (i : ℕ) → slice_index block.now i < 256 },
 }
 
 impl<'a> Terms<'a> {

@@ -14,5 +14,5 @@ returns c =
     let first = c.read_terms.new.a in
     let size : length first ≡ suc t.k * t.n = omega arith in
     terms_added t.n t.k t.gadget.g t.gadget.l (words t.block.now) (words t.x.now) first c.read_terms-2.new.a (words out) _ b.from b.count t.gadget.lawful
-    (words_word t.block.now t.block_bytes) c.requires.2 c.read_terms.ensures.0 c.read_terms-2.ensures.0 (degree_pos t.n t.degree)
+    (words_word t.block.now c.are_bytes.ensures) c.requires.2 c.read_terms.ensures.0 c.read_terms-2.ensures.0 (degree_pos t.n t.degree)
     (omega (arith, length_words out, c.requires.0)) (rw size at c.add_words.ensures)
