@@ -20,7 +20,8 @@ use layout::{AMPLITUDES_ROOM, BLOCKS_ROOM, SAMPLE_ROOM, WORK_ROOM, room};
 use parts::SectionTwo;
 use tables::Lawful;
 
-// What comes of a file that is accepted: what its lookup reports, and the bytes of the sample at the front of a room for the largest.
+// What comes of a file that is accepted: what its lookup reports, and the bytes of the sample at the front of a room for the largest. An
+// array with a size beside it can be copied, which an `ArrayVec` can't.
 #[derive(Clone, Copy)]
 pub struct Outcome {
     pub ledger: Ledger,

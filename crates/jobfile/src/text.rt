@@ -8,7 +8,7 @@ ghost use Rattle.jobfile.specs.Output as Output;
 use crate::layout::{SAMPLE_ROOM, TEXT_ROOM, room};
 use answers::{Answer, Refusal};
 
-// A text at the front of a room for the longest, and how many bytes it has.
+// A text at the front of a room for the longest, and how many bytes it has: copied, as `Outcome` is.
 #[derive(Clone, Copy)]
 pub struct Text {
     pub size: usize,
