@@ -44,6 +44,8 @@ pub fn lookup(lent: &Lent, sample: &mut [u8], work: &mut [u8]) -> Answer
     ensures { (let j = job_of lent.now sample.old work.old in
         (result ≡ Calls.lookup j) × (sample.new ≡ Calls.lookup_sample j) × (work.new ≡ Calls.lookup_work j)) }
 {
-    lookup_answer(lent, sample, work)?;
-    Ok(rotation::evaluate(sample, work, lent))
+    match lookup_answer(lent, sample, work) {
+        Ok(_) => Ok(rotation::evaluate(sample, work, lent)),
+        refused => refused,
+    }
 }
